@@ -1,0 +1,121 @@
+-- Registers and slips: the two laws, and what they come to.
+use mathlib.Core.Path.{_≡_, refl, sym, ap, _∙_}
+use mathlib.Core.Bool.{Bool, true, false, _&&_}
+use mathlib.Core.Option.{Option, none, some}
+use mathlib.Core.List.{List, [], _∷_, _++_}
+use Prim.Native.Nat.{ℕ, _≤_, _<_, _^_}
+use native.Mathlib.Omega.{arith}
+use lib.Dec.{eqb, leb, lit<}
+use borrow.Author.Tests.{eqb-true, leb-true}
+use Rattle.texts.specs.Bounds.{codePlaces, mostShops, mostDeps, most}
+use Rattle.texts.specs.Bytes.{bytes, sameBytes}
+use Rattle.texts.specs.Layout.{Layout, _⟫_, _then_, key, group}
+use Rattle.texts.specs.Leaf.{digit, number, kept}
+use Rattle.texts.specs.Code.{noCode, code, sameCode}
+use Rattle.texts.specs.Lines.{closed, six, codeLine, numberLine, pairLine}
+use Rattle.texts.specs.Register.{noListed, zeroListed, shopsLine, shopLine, shopLines, ownLine, registerLayout, registerIn}
+use Rattle.texts.specs.Slip.{noDep, zeroDep, payerLine, slipNumberLine, payeeLine, amountLine, depsLine, depLine, depLines, slipLayout, slipIn}
+use Rattle.texts.specs.Lawful.{Lawful}
+use Rattle.texts.specs.declared.code.Code.{Code}
+use Rattle.texts.specs.declared.register.Listed.{Listed}
+use Rattle.texts.specs.declared.register.Register.{Register}
+use Rattle.texts.specs.declared.slip.Dep.{Dep}
+use Rattle.texts.specs.declared.slip.Slip.{Slip}
+use Rattle.texts.proofs.Steps.{both, same-bytes}
+use Rattle.texts.proofs.Laws.{next-lawful, then-lawful, of-lawful, key-lawful, shut-lawful}
+use Rattle.texts.proofs.LawsLeaf.{number-lawful, kept-lawful}
+use Rattle.texts.proofs.LawsGroup.{group-lawful}
+use Rattle.texts.proofs.LawsWhole.{whole-back, whole-only}
+
+-- ---- codes
+
+-- codes that compare equal are the same value
+pub same-code : (a b : Code) → sameCode a b ≡ true → a ≡ b
+unfolding sameCode
+same-code a b e =
+    let p = both (eqb (a .len) (b .len)) (sameBytes (a .digits) (b .digits)) e in
+    λ i. record { digits = same-bytes (a .digits) (b .digits) (p .1) i; len = eqb-true (a .len) (b .len) (p .0) i }
+
+pub code-lawful : (b : ℕ) → digit b ≡ false → Lawful (code b)
+code-lawful b h = of-lawful (λ (c : Code). (c .digits, c .len)) (λ p. record { digits = p .0; len = p .1 }) (kept codePlaces b) (λ _. refl) (λ _. refl) (kept-lawful codePlaces b h)
+
+-- ---- lines
+
+pub closed-lawful : (width least upper : ℕ) → upper < 10 ^ width → Lawful (closed width least upper)
+closed-lawful width least upper h = shut-lawful (number width least upper) (bytes "\n") (number-lawful width least upper h)
+
+pub code-line-lawful : (name : List ℕ) → Lawful (codeLine name)
+code-line-lawful name = key-lawful name (code 10) (code-lawful 10 refl)
+
+pub number-line-lawful : (name : List ℕ) (width least upper : ℕ) → upper < 10 ^ width → Lawful (numberLine name width least upper)
+number-line-lawful name width least upper h = key-lawful name (closed width least upper) (closed-lawful width least upper h)
+
+pub pair-line-lawful : (name : List ℕ) → Lawful (pairLine name)
+pair-line-lawful name = then-lawful (key name (code 58)) six (key-lawful name (code 58) (code-lawful 58 refl)) (closed-lawful 6 0 most (lit< tt))
+
+-- a counted group: its number line, then so many lines
+pub counted-lawful : {A : Type 0} (name : List ℕ) (least places : ℕ) (z : A) (unused : A → Bool) (L : Layout A) → places < 10 ^ 2 → unused z ≡ true
+    → ((x : A) → unused x ≡ true → x ≡ z) → Lawful L → Lawful (numberLine name 2 least places ⟫ group places z unused L)
+counted-lawful name least places z unused L few blank is P =
+    next-lawful (numberLine name 2 least places) (group places z unused L) (number-line-lawful name 2 least places few)
+    (λ n h. group-lawful L P places z unused blank is n (leb-true n places (both (leb least n) (leb n places) (both (leb least n && leb n places) true h .0) .1)))
+
+-- ---- the register
+
+pub zeroListed-is : (s : Listed) → zeroListed s ≡ true → s ≡ noListed
+zeroListed-is s e =
+    let p = both (sameCode (s .code) noCode) (eqb (s .opening) 0) e in
+    λ i. record { code = same-code (s .code) noCode (p .0) i; opening = eqb-true (s .opening) 0 (p .1) i }
+
+shop-lawful : Lawful shopLine
+shop-lawful = of-lawful (λ (s : Listed). (s .code, s .opening)) (λ p. record { code = p .0; opening = p .1 }) (pairLine (bytes "shop=")) (λ _. refl) (λ _. refl) (pair-line-lawful (bytes "shop="))
+
+pub register-lawful : Lawful registerLayout
+unfolding registerLayout sameCode sameBytes
+register-lawful =
+    of-lawful (λ (r : Register). ((r .count, r .shops), r .own)) (λ p. record { count = p .0 .0; shops = p .0 .1; own = p .1 })
+    ((shopsLine ⟫ shopLines) then ownLine) (λ _. refl) (λ _. refl)
+    (then-lawful (shopsLine ⟫ shopLines) ownLine (counted-lawful (bytes "shops=") 1 mostShops noListed zeroListed shopLine (lit< tt) refl zeroListed-is shop-lawful)
+    (code-line-lawful (bytes "own=")))
+
+-- ---- the slip
+
+pub zeroDep-is : (d : Dep) → zeroDep d ≡ true → d ≡ noDep
+zeroDep-is d e =
+    let p = both (sameCode (d .code) noCode) (eqb (d .number) 0) e in
+    λ i. record { code = same-code (d .code) noCode (p .0) i; number = eqb-true (d .number) 0 (p .1) i }
+
+dep-lawful : Lawful depLine
+dep-lawful = of-lawful (λ (d : Dep). (d .code, d .number)) (λ p. record { code = p .0; number = p .1 }) (pairLine (bytes "dep=")) (λ _. refl) (λ _. refl) (pair-line-lawful (bytes "dep="))
+
+pub slip-lawful : Lawful slipLayout
+unfolding slipLayout sameCode sameBytes
+slip-lawful =
+    of-lawful
+    (λ (s : Slip). (s .payer, (s .number, (s .payee, (s .amount, (s .count, s .deps))))))
+    (λ p. record { payer = p .0; number = p .1 .0; payee = p .1 .1 .0; amount = p .1 .1 .1 .0; count = p .1 .1 .1 .1 .0; deps = p .1 .1 .1 .1 .1 })
+    (payerLine then slipNumberLine then payeeLine then amountLine then (depsLine ⟫ depLines))
+    (λ _. refl) (λ _. refl)
+    (then-lawful payerLine _ (code-line-lawful (bytes "payer="))
+    (then-lawful slipNumberLine _ (number-line-lawful (bytes "number=") 6 0 most (lit< tt))
+    (then-lawful payeeLine _ (code-line-lawful (bytes "payee="))
+    (then-lawful amountLine (depsLine ⟫ depLines) (number-line-lawful (bytes "amount=") 6 0 most (lit< tt))
+    (counted-lawful (bytes "deps=") 0 mostDeps noDep zeroDep depLine (lit< tt) refl zeroDep-is dep-lawful)))))
+
+-- ---- what they come to
+
+pub register-back : (r : Register) → registerLayout .legal r ≡ true → registerIn (registerLayout .text r) ≡ some r
+unfolding registerIn
+register-back = whole-back registerLayout register-lawful
+
+pub register-only : (s : List ℕ) (r : Register) → registerIn s ≡ some r → (registerLayout .legal r ≡ true) × (s ≡ registerLayout .text r)
+unfolding registerIn
+register-only = whole-only registerLayout register-lawful
+
+pub slip-back : (s : Slip) → slipLayout .legal s ≡ true → slipIn (slipLayout .text s) ≡ some s
+unfolding slipIn
+slip-back = whole-back slipLayout slip-lawful
+
+pub slip-only : (t : List ℕ) (s : Slip) → slipIn t ≡ some s → (slipLayout .legal s ≡ true) × (t ≡ slipLayout .text s)
+unfolding slipIn
+slip-only = whole-only slipLayout slip-lawful

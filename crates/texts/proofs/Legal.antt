@@ -1,0 +1,179 @@
+-- Legal registers and slips, taken apart; and positions of codes.
+use mathlib.Core.Path.{_≡_, refl, sym, ap, _∙_}
+use mathlib.Core.Bool.{Bool, true, false, not, _&&_, false≢true}
+use mathlib.Core.Option.{Option, none, some}
+use mathlib.Core.List.{List, [], _∷_, _++_}
+use Prim.Native.Nat.{ℕ, zero, suc, _-_, _≤_, _<_}
+use native.Mathlib.Omega.{arith}
+use lib.Dec.{eqb, leb, ltb}
+use lib.ListN.{length, take, drop, getD, replicate, length-drop, length-append, length-replicate, take-append-drop}
+use lib.Seq.{length-take-le, take-at, drop-at}
+use borrow.Author.Tests.{eqb-true, eq-eqb, leb-true, le-leb, ltb-true, not-true, not-false}
+use Rattle.texts.specs.Bytes.{sameBytes, allOf, found, orZeros}
+use Rattle.texts.specs.Layout.{Layout}
+use Rattle.texts.specs.Leaf.{digit}
+use Rattle.texts.specs.Code.{noCode, code, sameCode}
+use Rattle.texts.specs.Answers.{Meaning, answerOf}
+use Rattle.texts.specs.Register.{noListed, noRegister, zeroListed, shopsLine, shopLine, ownLine, registerLayout, registerIn, place, among, twins, shopsOf, position, listed, registerRows, registerAnswer, registerTextAnswer, registerRead}
+use Rattle.texts.specs.Slip.{noDep, zeroDep, payerLine, slipNumberLine, payeeLine, amountLine, depsLine, depLine, slipLayout, depsOf}
+use Rattle.texts.specs.declared.code.Code.{Code}
+use Rattle.texts.specs.declared.register.Listed.{Listed}
+use Rattle.texts.specs.declared.register.Register.{Register}
+use Rattle.texts.specs.declared.slip.Dep.{Dep}
+use Rattle.texts.specs.declared.slip.Slip.{Slip}
+use Rattle.texts.proofs.Steps.{both, and, all-zeros, zeros-all, bytes-same}
+use Rattle.texts.proofs.Firsts.{first-zero}
+use Rattle.texts.proofs.LawsTexts.{same-code, zeroListed-is, zeroDep-is, register-only}
+
+-- ---- codes
+
+pub code-same : (c : Code) → sameCode c c ≡ true
+unfolding sameCode
+code-same c = and (eqb (c .len) (c .len)) _ (borrow.Author.Tests.eq-eqb (c .len) (c .len) refl) (bytes-same (c .digits))
+
+pub code-some : (b : ℕ) (c : Code) → code b .legal c ≡ true → 1 ≤ c .len
+code-some b c e =
+    let k = both (eqb (length (c .digits)) 8) _ e in
+    let l = both (leb 1 (c .len) && leb (c .len) 8) _ (k .1) in
+    leb-true 1 (c .len) (both (leb 1 (c .len)) (leb (c .len) 8) (l .0) .0)
+
+-- ---- the slip
+
+pub record SlipLegal (s : Slip) : Type 0 where
+  pub payer : code 10 .legal (s .payer) ≡ true
+  pub payee : code 10 .legal (s .payee) ≡ true
+  pub number : s .number ≤ 999999
+  pub amount : s .amount ≤ 999999
+  pub count : s .count ≤ 15
+  pub places : length (s .deps) ≡ 15
+  pub used : allOf (depLine .legal) (depsOf s) ≡ true
+  pub rest : drop (s .count) (s .deps) ≡ replicate (15 - s .count) noDep
+
+upto : (least n most : ℕ) → (leb least n && leb n most) && true ≡ true → n ≤ most
+upto least n most e = leb-true n most (both (leb least n) (leb n most) (both (leb least n && leb n most) true e .0) .1)
+
+pub slip-legal : (s : Slip) → slipLayout .legal s ≡ true → SlipLegal s
+unfolding slipLayout
+slip-legal s e =
+    let a = both (payerLine .legal (s .payer)) _ e in
+    let b = both (slipNumberLine .legal (s .number)) _ (a .1) in
+    let c = both (payeeLine .legal (s .payee)) _ (b .1) in
+    let d = both (amountLine .legal (s .amount)) _ (c .1) in
+    let f = both (depsLine .legal (s .count)) _ (d .1) in
+    let g = both (eqb (length (s .deps)) 15) _ (f .1) in
+    let h = both (allOf (depLine .legal) (take (s .count) (s .deps))) (allOf zeroDep (drop (s .count) (s .deps))) (g .1) in
+    let l = eqb-true (length (s .deps)) 15 (g .0) in
+    record {
+      payer = a .0;
+      payee = c .0;
+      number = upto 0 (s .number) 999999 (b .0);
+      amount = upto 0 (s .amount) 999999 (d .0);
+      count = upto 0 (s .count) 15 (f .0);
+      places = l;
+      used = h .0;
+      rest = all-zeros noDep zeroDep zeroDep-is (drop (s .count) (s .deps)) (h .1) ∙ ap (λ k. replicate k noDep) (length-drop (s .count) (s .deps) ∙ ap (λ k. k - s .count) l);
+    }
+
+-- and put together
+pub legal-slip : (payer : Code) (number : ℕ) (payee : Code) (amount : ℕ) (ds : List Dep) → code 10 .legal payer ≡ true → code 10 .legal payee ≡ true
+    → number ≤ 999999 → amount ≤ 999999 → length ds ≤ 15 → allOf (depLine .legal) ds ≡ true
+    → slipLayout .legal (record { payer = payer; number = number; payee = payee; amount = amount; count = length ds; deps = ds ++ replicate (15 - length ds) noDep }) ≡ true
+unfolding slipLayout sameCode sameBytes
+legal-slip payer number payee amount ds a b c d e f =
+    let upto : (n m : ℕ) → n ≤ m → (leb 0 n && leb n m) && true ≡ true = λ n m h. and _ _ (and _ _ (le-leb 0 n (omega arith)) (le-leb n m h)) refl in
+    let rest : List Dep = replicate (15 - length ds) noDep in
+    let l : length (ds ++ rest) ≡ 15 = length-append ds rest ∙ omega (arith, length-replicate (15 - length ds) noDep) in
+    and _ _ a
+    (and _ _ (upto number 999999 c)
+    (and _ _ b
+    (and _ _ (upto amount 999999 d)
+    (and _ _ (upto (length ds) 15 e)
+    (and _ _ (eq-eqb _ 15 l)
+    (and _ _ (ap (allOf (depLine .legal)) (take-at ds rest (length ds) refl) ∙ f)
+    (ap (allOf zeroDep) (drop-at ds rest (length ds) refl) ∙ zeros-all noDep zeroDep refl (15 - length ds))))))))
+
+-- ---- the register
+
+pub record RegisterLegal (r : Register) : Type 0 where
+  pub some : 1 ≤ r .count
+  pub most : r .count ≤ 16
+  pub places : length (r .shops) ≡ 16
+  pub rest : drop (r .count) (r .shops) ≡ replicate (16 - r .count) noListed
+  pub used : allOf (shopLine .legal) (shopsOf r) ≡ true
+  pub single : twins (shopsOf r) ≡ false
+  pub own : listed r (r .own) ≡ true
+  pub ownCode : code 10 .legal (r .own) ≡ true
+
+pub register-legal : (r : Register) → registerAnswer r ≡ 0 → RegisterLegal r
+unfolding registerAnswer registerLayout
+register-legal r e =
+    let one = first-zero Meaning.form _ _ (omega arith) e in
+    let twelve = first-zero Meaning.twin _ _ (omega arith) (one .1) in
+    let two = first-zero Meaning.shop _ _ (omega arith) (twelve .1) in
+    let a = both (shopsLine .legal (r .count) && _) (ownLine .legal (r .own)) (not-false _ (one .0)) in
+    let b = both (shopsLine .legal (r .count)) _ (a .0) in
+    let c = both (leb 1 (r .count) && leb (r .count) 16) true (b .0) in
+    let d = both (leb 1 (r .count)) (leb (r .count) 16) (c .0) in
+    let g = both (eqb (length (r .shops)) 16) _ (b .1) in
+    let h = both (allOf (shopLine .legal) (take (r .count) (r .shops))) (allOf zeroListed (drop (r .count) (r .shops))) (g .1) in
+    let l = eqb-true (length (r .shops)) 16 (g .0) in
+    record {
+      some = leb-true 1 (r .count) (d .0);
+      most = leb-true (r .count) 16 (d .1);
+      places = l;
+      rest = all-zeros noListed zeroListed zeroListed-is (drop (r .count) (r .shops)) (h .1) ∙ ap (λ k. replicate k noListed) (length-drop (r .count) (r .shops) ∙ ap (λ k. k - r .count) l);
+      used = h .0;
+      single = twelve .0;
+      own = not-false _ (two .0);
+      ownCode = a .1;
+    }
+
+-- a register that was read is the one that the text carries, and is legal
+pub record Opens (text : List ℕ) : Type 0 where
+  pub register : Register
+  pub carried : registerIn text ≡ some register
+  pub given : registerRead text .register ≡ register
+  pub legal : registerAnswer register ≡ 0
+
+pub read-legal : (text : List ℕ) → registerRead text .answer ≡ 0 → Opens text
+unfolding registerRead registerTextAnswer registerAnswer
+read-legal text e = go (registerIn text) refl
+  where
+    answer : Option Register → ℕ
+    answer o = answerOf (registerRows (found o) (orZeros noRegister o))
+
+    pick : ℕ → Register
+    pick n = elim n [ zero ↦ orZeros noRegister (registerIn text) | suc n ↦ noRegister ]
+
+    go : (o : Option Register) → registerIn text ≡ o → Opens text
+    go none i =
+        let z : answer none ≡ 0 = ap answer (sym i) ∙ e in
+        absurd (false≢true (sym (first-zero Meaning.form true _ (omega arith) z .0)))
+    go (some r) i = record {
+      register = r;
+      carried = i;
+      given = ap pick e ∙ ap (orZeros noRegister) i;
+      legal = ap (λ b. answerOf (registerRows b r)) (register-only text r i .0) ∙ ap answer (sym i) ∙ e;
+    }
+
+-- ---- positions
+
+-- a code that is listed stands at its position
+pub place-at : (shops : List Listed) (c : Code) (z : Listed) → place shops c < length shops → getD shops (place shops c) z .code ≡ c
+unfolding place
+place-at [] c z h = absurd (omega arith)
+place-at (s ∷ shops) c z h = go (sameCode (s .code) c) refl (place-at shops c z)
+  where
+    go : (t : Bool) → sameCode (s .code) c ≡ t → (place shops c < length shops → getD shops (place shops c) z .code ≡ c)
+        → getD (s ∷ shops) (place (s ∷ shops) c) z .code ≡ c
+    go true e ih = rw (e, place) (same-code (s .code) c e)
+    go false e ih = let l : suc (place shops c) < suc (length shops) = rw (e, place) at h in rw (e, place) (ih (omega arith))
+
+-- and no later one stands for it
+pub place-head : (s : Listed) (shops : List Listed) (c : Code) → sameCode (s .code) c ≡ true → place (s ∷ shops) c ≡ 0
+unfolding place
+place-head s shops c e = rw (e, place)
+
+pub place-later : (s : Listed) (shops : List Listed) (c : Code) → sameCode (s .code) c ≡ false → place (s ∷ shops) c ≡ suc (place shops c)
+unfolding place
+place-later s shops c e = rw (e, place)

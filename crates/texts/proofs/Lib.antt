@@ -1,0 +1,11 @@
+pub mod Steps
+pub mod Firsts
+pub mod Laws
+pub mod LawsLeaf
+pub mod LawsGroup
+pub mod LawsWhole
+pub mod LawsTexts
+pub mod Examples
+pub mod Legal
+pub mod Lengths
+pub mod Payees

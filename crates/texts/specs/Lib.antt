@@ -1,0 +1,13 @@
+pub mod Bounds
+pub mod Bytes
+pub mod Layout
+pub mod Lawful
+pub mod Leaf
+pub mod Code
+pub mod Lines
+pub mod Answers
+pub mod Written
+pub mod Register
+pub mod Slip
+pub mod Payee
+pub mod Inside

@@ -1,0 +1,112 @@
+-- The register's text: "`shops=` two digits 01 to 16; that many `shop=CODE:OPENING` lines, opening six digits; `own=CODE`."
+use mathlib.Core.Bool.{Bool, true, false, not, _&&_, _||_}
+use mathlib.Core.Option.{Option, none, some}
+use mathlib.Core.List.{List, [], _∷_}
+use Prim.Native.Nat.{ℕ, zero, suc}
+use lib.ListN.{length, take, replicate}
+use lib.Dec.{ltb, eqb}
+use Rattle.texts.specs.Bounds.{mostShops, registerRoom}
+use Rattle.texts.specs.Bytes.{bytes, found, orZeros}
+use Rattle.texts.specs.Layout.{Layout, _⟫_, _then_, of, group, whole}
+use Rattle.texts.specs.Code.{noCode, sameCode}
+use Rattle.texts.specs.Lines.{codeLine, numberLine, pairLine}
+use Rattle.texts.specs.Answers.{Row, form, shop, room, twin, answerOf}
+use Rattle.texts.specs.Written.{answered, buffered}
+use Rattle.texts.specs.declared.code.Code.{Code}
+use Rattle.texts.specs.declared.register.Listed.{Listed}
+use Rattle.texts.specs.declared.register.Register.{Register}
+use Rattle.texts.specs.declared.register.RegisterRead.{RegisterRead}
+use Rattle.texts.specs.declared.pen.Written.{Written}
+
+-- ---- zeros
+
+abbrev pub noListed : Listed
+noListed = record { code = noCode; opening = 0 }
+
+abbrev pub noRegister : Register
+noRegister = record { count = 0; shops = replicate mostShops noListed; own = noCode }
+
+-- An unused place is zero.
+abbrev pub zeroListed : Listed → Bool
+zeroListed s = sameCode (s .code) noCode && eqb (s .opening) 0
+
+-- ---- the lines
+
+abbrev pub shopsLine : Layout ℕ
+shopsLine = numberLine (bytes "shops=") 2 1 mostShops
+
+abbrev pub shopLine : Layout Listed
+shopLine = of (λ s. (s .code, s .opening)) (λ p. record { code = p .0; opening = p .1 }) (pairLine (bytes "shop="))
+
+abbrev pub shopLines : ℕ → Layout (List Listed)
+shopLines = group mostShops noListed zeroListed shopLine
+
+abbrev pub ownLine : Layout Code
+ownLine = codeLine (bytes "own=")
+
+unfoldable pub registerLayout : Layout Register
+registerLayout =
+    of (λ r. ((r .count, r .shops), r .own)) (λ p. record { count = p .0 .0; shops = p .0 .1; own = p .1 })
+    ((shopsLine ⟫ shopLines) then ownLine)
+
+-- The register that a text carries, if any.
+unfoldable pub registerIn : List ℕ → Option Register
+registerIn text = whole registerLayout text
+
+-- ---- positions: "A position is a shop's place in the register, from 0."
+
+-- The place of a code in a list of shops; past the last where it is not listed.
+unfoldable pub place : List Listed → Code → ℕ
+place [] c = 0
+place (s ∷ shops) c = elim (sameCode (s .code) c) [ true ↦ 0 | false ↦ suc (place shops c) ]
+
+abbrev pub among : List Listed → Code → Bool
+among shops c = ltb (place shops c) (length shops)
+
+-- "two equal codes in a register"
+unfoldable pub twins : List Listed → Bool
+twins [] = false
+twins (s ∷ shops) = among shops (s .code) || twins shops
+
+-- The shops in use, and of a code: its position (the number of shops, where it is not listed), is it listed.
+abbrev pub shopsOf : Register → List Listed
+shopsOf r = take (r .count) (r .shops)
+
+abbrev pub position : Register → Code → ℕ
+position r c = place (shopsOf r) c
+
+abbrev pub listed : Register → Code → Bool
+listed r c = among (shopsOf r) c
+
+-- ---- answers: "Register: 1, 12, 2." "Writing a register: 11, 1, 12, 2."
+
+abbrev pub ownRows : Register → List Row
+ownRows r = (twin, twins (shopsOf r)) ∷ (shop, not (listed r (r .own))) ∷ []
+
+abbrev pub registerRows : Bool → Register → List Row
+registerRows fits r = (form, not fits) ∷ ownRows r
+
+-- A legal register.
+unfoldable pub registerAnswer : Register → ℕ
+registerAnswer r = answerOf (registerRows (registerLayout .legal r) r)
+
+unfoldable pub registerTextAnswer : List ℕ → ℕ
+registerTextAnswer text = answerOf (registerRows (found (registerIn text)) (orZeros noRegister (registerIn text)))
+
+-- "A refused register gives a record of zeros."
+unfoldable pub registerRead : List ℕ → RegisterRead
+registerRead text =
+    record {
+      answer = registerTextAnswer text;
+      register = elim (registerTextAnswer text) [ zero ↦ orZeros noRegister (registerIn text) | suc n ↦ noRegister ];
+    }
+
+-- "a lent buffer of at least 358 bytes"
+unfoldable pub registerWriteAnswer : Register → List ℕ → ℕ
+registerWriteAnswer r buffer = answerOf ((room, ltb (length buffer) registerRoom) ∷ registerRows (registerLayout .legal r) r)
+
+abbrev pub registerWritten : Register → List ℕ → Written
+registerWritten r buffer = answered (registerWriteAnswer r buffer) (registerLayout .text r)
+
+abbrev pub registerBuffer : Register → List ℕ → List ℕ
+registerBuffer r buffer = buffered (registerWriteAnswer r buffer) (registerLayout .text r) buffer

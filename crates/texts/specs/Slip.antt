@@ -1,0 +1,92 @@
+-- The slip's text: "`payer=CODE`, `number=` six digits, `payee=CODE`, `amount=` six digits, `deps=` two digits 00 to 15, then that many
+-- `dep=CODE:NUMBER` lines, number six digits." The order of dependencies is no matter of form: "a breach is answer 5, not 1".
+use mathlib.Core.Bool.{Bool, true, false, not, _&&_}
+use mathlib.Core.Option.{Option, none, some}
+use mathlib.Core.List.{List, [], _∷_}
+use Prim.Native.Nat.{ℕ}
+use lib.ListN.{length, take, replicate}
+use lib.Dec.{ltb, eqb}
+use Rattle.texts.specs.Bounds.{mostDeps, most, slipRoom}
+use Rattle.texts.specs.Bytes.{bytes, found, orZeros}
+use Rattle.texts.specs.Layout.{Layout, _⟫_, _then_, of, group, whole}
+use Rattle.texts.specs.Code.{noCode, sameCode}
+use Rattle.texts.specs.Lines.{codeLine, numberLine, pairLine}
+use Rattle.texts.specs.Answers.{form, room, answerOf}
+use Rattle.texts.specs.Written.{answered, buffered}
+use Rattle.texts.specs.declared.code.Code.{Code}
+use Rattle.texts.specs.declared.slip.Dep.{Dep}
+use Rattle.texts.specs.declared.slip.Slip.{Slip}
+use Rattle.texts.specs.declared.slip.SlipRead.{SlipRead}
+use Rattle.texts.specs.declared.pen.Written.{Written}
+
+-- ---- zeros
+
+abbrev pub noDep : Dep
+noDep = record { code = noCode; number = 0 }
+
+abbrev pub noSlip : Slip
+noSlip = record { payer = noCode; number = 0; payee = noCode; amount = 0; count = 0; deps = replicate mostDeps noDep }
+
+-- An unused place is zero.
+abbrev pub zeroDep : Dep → Bool
+zeroDep d = sameCode (d .code) noCode && eqb (d .number) 0
+
+-- ---- the lines
+
+abbrev pub payerLine : Layout Code
+payerLine = codeLine (bytes "payer=")
+
+abbrev pub slipNumberLine : Layout ℕ
+slipNumberLine = numberLine (bytes "number=") 6 0 most
+
+abbrev pub payeeLine : Layout Code
+payeeLine = codeLine (bytes "payee=")
+
+abbrev pub amountLine : Layout ℕ
+amountLine = numberLine (bytes "amount=") 6 0 most
+
+abbrev pub depsLine : Layout ℕ
+depsLine = numberLine (bytes "deps=") 2 0 mostDeps
+
+abbrev pub depLine : Layout Dep
+depLine = of (λ d. (d .code, d .number)) (λ p. record { code = p .0; number = p .1 }) (pairLine (bytes "dep="))
+
+abbrev pub depLines : ℕ → Layout (List Dep)
+depLines = group mostDeps noDep zeroDep depLine
+
+unfoldable pub slipLayout : Layout Slip
+slipLayout =
+    of (λ s. (s .payer, (s .number, (s .payee, (s .amount, (s .count, s .deps))))))
+    (λ p. record {
+      payer = p .0;
+      number = p .1 .0;
+      payee = p .1 .1 .0;
+      amount = p .1 .1 .1 .0;
+      count = p .1 .1 .1 .1 .0;
+      deps = p .1 .1 .1 .1 .1;
+    })
+    (payerLine then slipNumberLine then payeeLine then amountLine then (depsLine ⟫ depLines))
+
+-- The slip that a text carries, if any.
+unfoldable pub slipIn : List ℕ → Option Slip
+slipIn text = whole slipLayout text
+
+-- The dependencies in use.
+abbrev pub depsOf : Slip → List Dep
+depsOf s = take (s .count) (s .deps)
+
+-- ---- answers: "Reading a slip: 1." "Writing a slip: 11, 1."
+
+-- "a slip text refused by the reader gives a slip of zeros"
+unfoldable pub slipRead : List ℕ → SlipRead
+slipRead text = record { answer = answerOf ((form, not (found (slipIn text))) ∷ []); slip = orZeros noSlip (slipIn text) }
+
+-- "a lent buffer of at least 366 bytes"
+unfoldable pub slipWriteAnswer : Slip → List ℕ → ℕ
+slipWriteAnswer s buffer = answerOf ((room, ltb (length buffer) slipRoom) ∷ (form, not (slipLayout .legal s)) ∷ [])
+
+abbrev pub slipWritten : Slip → List ℕ → Written
+slipWritten s buffer = answered (slipWriteAnswer s buffer) (slipLayout .text s)
+
+abbrev pub slipBuffer : Slip → List ℕ → List ℕ
+slipBuffer s buffer = buffered (slipWriteAnswer s buffer) (slipLayout .text s) buffer
