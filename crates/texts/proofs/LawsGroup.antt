@@ -14,6 +14,12 @@ use Rattle.texts.specs.Layout.{Layout, joined, several, group}
 use Rattle.texts.specs.Lawful.{Stands, Lawful}
 use Rattle.texts.proofs.Steps.{both, and, bind-at, bind-some, carry, all-zeros, zeros-all}
 
+-- the texts of two lists of values, one after the other
+pub joined-append : {A : Type 0} (L : Layout A) (xs ys : List A) → joined L (xs ++ ys) ≡ joined L xs ++ joined L ys
+unfolding joined
+joined-append L [] ys = refl
+joined-append L (x ∷ xs) ys = ap (λ r. L .text x ++ r) (joined-append L xs ys) ∙ sym (append-assoc (L .text x) (joined L xs) (joined L ys))
+
 module _ {A : Type 0} (L : Layout A) (P : Lawful L) where
   several-back : (n : ℕ) (xs : List A) (r : List ℕ) → length xs ≡ n → allOf (L .legal) xs ≡ true → several L n (joined L xs ++ r) ≡ some (xs, r)
   unfolding several joined allOf

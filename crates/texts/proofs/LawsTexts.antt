@@ -11,10 +11,10 @@ use Rattle.texts.specs.Bounds.{codePlaces, mostShops, mostDeps, most}
 use Rattle.texts.specs.Bytes.{bytes, sameBytes}
 use Rattle.texts.specs.Layout.{Layout, _⟫_, _then_, key, group}
 use Rattle.texts.specs.Leaf.{digit, number, kept}
-use Rattle.texts.specs.Code.{noCode, code, sameCode}
+use Rattle.texts.specs.Code.{noCode, codeParts, partsCode, code, sameCode}
 use Rattle.texts.specs.Lines.{closed, six, codeLine, numberLine, pairLine}
-use Rattle.texts.specs.Register.{noListed, zeroListed, shopsLine, shopLine, shopLines, ownLine, registerLayout, registerIn}
-use Rattle.texts.specs.Slip.{noDep, zeroDep, payerLine, slipNumberLine, payeeLine, amountLine, depsLine, depLine, depLines, slipLayout, slipIn}
+use Rattle.texts.specs.Register.{noListed, zeroListed, shopsLine, listedParts, partsListed, shopLine, shopLines, ownLine, registerParts, partsRegister, registerLayout, registerIn}
+use Rattle.texts.specs.Slip.{noDep, zeroDep, payerLine, slipNumberLine, payeeLine, amountLine, depsLine, depParts, partsDep, depLine, depLines, slipParts, partsSlip, slipLayout, slipIn}
 use Rattle.texts.specs.Lawful.{Lawful}
 use Rattle.texts.specs.declared.code.Code.{Code}
 use Rattle.texts.specs.declared.register.Listed.{Listed}
@@ -37,7 +37,7 @@ same-code a b e =
     λ i. record { digits = same-bytes (a .digits) (b .digits) (p .1) i; len = eqb-true (a .len) (b .len) (p .0) i }
 
 pub code-lawful : (b : ℕ) → digit b ≡ false → Lawful (code b)
-code-lawful b h = of-lawful (λ (c : Code). (c .digits, c .len)) (λ p. record { digits = p .0; len = p .1 }) (kept codePlaces b) (λ _. refl) (λ _. refl) (kept-lawful codePlaces b h)
+code-lawful b h = of-lawful codeParts partsCode (kept codePlaces b) (λ _. refl) (λ _. refl) (kept-lawful codePlaces b h)
 
 -- ---- lines
 
@@ -68,13 +68,12 @@ zeroListed-is s e =
     λ i. record { code = same-code (s .code) noCode (p .0) i; opening = eqb-true (s .opening) 0 (p .1) i }
 
 shop-lawful : Lawful shopLine
-shop-lawful = of-lawful (λ (s : Listed). (s .code, s .opening)) (λ p. record { code = p .0; opening = p .1 }) (pairLine (bytes "shop=")) (λ _. refl) (λ _. refl) (pair-line-lawful (bytes "shop="))
+shop-lawful = of-lawful listedParts partsListed (pairLine (bytes "shop=")) (λ _. refl) (λ _. refl) (pair-line-lawful (bytes "shop="))
 
 pub register-lawful : Lawful registerLayout
 unfolding registerLayout sameCode sameBytes
 register-lawful =
-    of-lawful (λ (r : Register). ((r .count, r .shops), r .own)) (λ p. record { count = p .0 .0; shops = p .0 .1; own = p .1 })
-    ((shopsLine ⟫ shopLines) then ownLine) (λ _. refl) (λ _. refl)
+    of-lawful registerParts partsRegister ((shopsLine ⟫ shopLines) then ownLine) (λ _. refl) (λ _. refl)
     (then-lawful (shopsLine ⟫ shopLines) ownLine (counted-lawful (bytes "shops=") 1 mostShops noListed zeroListed shopLine (lit< tt) refl zeroListed-is shop-lawful)
     (code-line-lawful (bytes "own=")))
 
@@ -86,14 +85,12 @@ zeroDep-is d e =
     λ i. record { code = same-code (d .code) noCode (p .0) i; number = eqb-true (d .number) 0 (p .1) i }
 
 dep-lawful : Lawful depLine
-dep-lawful = of-lawful (λ (d : Dep). (d .code, d .number)) (λ p. record { code = p .0; number = p .1 }) (pairLine (bytes "dep=")) (λ _. refl) (λ _. refl) (pair-line-lawful (bytes "dep="))
+dep-lawful = of-lawful depParts partsDep (pairLine (bytes "dep=")) (λ _. refl) (λ _. refl) (pair-line-lawful (bytes "dep="))
 
 pub slip-lawful : Lawful slipLayout
 unfolding slipLayout sameCode sameBytes
 slip-lawful =
-    of-lawful
-    (λ (s : Slip). (s .payer, (s .number, (s .payee, (s .amount, (s .count, s .deps))))))
-    (λ p. record { payer = p .0; number = p .1 .0; payee = p .1 .1 .0; amount = p .1 .1 .1 .0; count = p .1 .1 .1 .1 .0; deps = p .1 .1 .1 .1 .1 })
+    of-lawful slipParts partsSlip
     (payerLine then slipNumberLine then payeeLine then amountLine then (depsLine ⟫ depLines))
     (λ _. refl) (λ _. refl)
     (then-lawful payerLine _ (code-line-lawful (bytes "payer="))

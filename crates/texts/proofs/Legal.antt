@@ -12,9 +12,10 @@ use borrow.Author.Tests.{eqb-true, eq-eqb, leb-true, le-leb, ltb-true, not-true,
 use Rattle.texts.specs.Bytes.{sameBytes, allOf, found, orZeros}
 use Rattle.texts.specs.Layout.{Layout}
 use Rattle.texts.specs.Leaf.{digit}
-use Rattle.texts.specs.Code.{noCode, code, sameCode}
+use Rattle.texts.specs.Bounds.{codePlaces, mostShops}
+use Rattle.texts.specs.Code.{noCode, code, isCode, sameCode, spelled}
 use Rattle.texts.specs.Answers.{Meaning, answerOf}
-use Rattle.texts.specs.Register.{noListed, noRegister, zeroListed, shopsLine, shopLine, ownLine, registerLayout, registerIn, place, among, twins, shopsOf, position, listed, registerRows, registerAnswer, registerTextAnswer, registerRead}
+use Rattle.texts.specs.Register.{noListed, noRegister, zeroListed, shopsLine, shopLine, shopLines, ownLine, registerLayout, registerIn, place, among, twins, shopsOf, position, listed, registerRows, registerAnswer, registerTextAnswer, registerRead}
 use Rattle.texts.specs.Slip.{noDep, zeroDep, payerLine, slipNumberLine, payeeLine, amountLine, depsLine, depLine, slipLayout, depsOf}
 use Rattle.texts.specs.declared.code.Code.{Code}
 use Rattle.texts.specs.declared.register.Listed.{Listed}
@@ -31,11 +32,22 @@ pub code-same : (c : Code) → sameCode c c ≡ true
 unfolding sameCode
 code-same c = and (eqb (c .len) (c .len)) _ (borrow.Author.Tests.eq-eqb (c .len) (c .len) refl) (bytes-same (c .digits))
 
-pub code-some : (b : ℕ) (c : Code) → code b .legal c ≡ true → 1 ≤ c .len
-code-some b c e =
-    let k = both (eqb (length (c .digits)) 8) _ e in
-    let l = both (leb 1 (c .len) && leb (c .len) 8) _ (k .1) in
-    leb-true 1 (c .len) (both (leb 1 (c .len)) (leb (c .len) 8) (l .0) .0)
+-- a code has a digit at least, and no more than its places
+pub code-some : (c : Code) → isCode c ≡ true → 1 ≤ c .len
+code-some c e =
+    let k = both (eqb (length (c .digits)) codePlaces) _ e in
+    let l = both (leb 1 (c .len) && leb (c .len) codePlaces) _ (k .1) in
+    leb-true 1 (c .len) (both (leb 1 (c .len)) (leb (c .len) codePlaces) (l .0) .0)
+
+pub code-held : (c : Code) → isCode c ≡ true → c .len ≤ length (c .digits)
+code-held c e =
+    let k = both (eqb (length (c .digits)) codePlaces) _ e in
+    let l = both (leb 1 (c .len) && leb (c .len) codePlaces) _ (k .1) in
+    omega (arith, eqb-true (length (c .digits)) codePlaces (k .0), leb-true (c .len) codePlaces (both (leb 1 (c .len)) (leb (c .len) codePlaces) (l .0) .1))
+
+-- the digits of a code fill its length
+pub spelled-length : (c : Code) → isCode c ≡ true → length (spelled c) ≡ c .len
+spelled-length c e = length-take-le (c .len) (c .digits) (code-held c e)
 
 -- ---- the slip
 
@@ -94,39 +106,47 @@ legal-slip payer number payee amount ds a b c d e f =
 
 -- ---- the register
 
-pub record RegisterLegal (r : Register) : Type 0 where
+-- what the layout's test says of a register
+pub record RegisterFits (r : Register) : Type 0 where
   pub some : 1 ≤ r .count
-  pub most : r .count ≤ 16
-  pub places : length (r .shops) ≡ 16
-  pub rest : drop (r .count) (r .shops) ≡ replicate (16 - r .count) noListed
+  pub most : r .count ≤ mostShops
+  pub places : length (r .shops) ≡ mostShops
+  pub rest : drop (r .count) (r .shops) ≡ replicate (mostShops - r .count) noListed
   pub used : allOf (shopLine .legal) (shopsOf r) ≡ true
+  pub ownCode : isCode (r .own) ≡ true
+
+pub register-fits : (r : Register) → registerLayout .legal r ≡ true → RegisterFits r
+unfolding registerLayout
+register-fits r e =
+    let a = both (shopsLine .legal (r .count) && shopLines (r .count) .legal (r .shops)) (ownLine .legal (r .own)) e in
+    let b = both (shopsLine .legal (r .count)) _ (a .0) in
+    let c = both (leb 1 (r .count) && leb (r .count) mostShops) true (b .0) in
+    let d = both (leb 1 (r .count)) (leb (r .count) mostShops) (c .0) in
+    let g = both (eqb (length (r .shops)) mostShops) _ (b .1) in
+    let h = both (allOf (shopLine .legal) (take (r .count) (r .shops))) (allOf zeroListed (drop (r .count) (r .shops))) (g .1) in
+    let l = eqb-true (length (r .shops)) mostShops (g .0) in
+    record {
+      some = leb-true 1 (r .count) (d .0);
+      most = leb-true (r .count) mostShops (d .1);
+      places = l;
+      rest = all-zeros noListed zeroListed zeroListed-is (drop (r .count) (r .shops)) (h .1) ∙ ap (λ k. replicate k noListed) (length-drop (r .count) (r .shops) ∙ ap (λ k. k - r .count) l);
+      used = h .0;
+      ownCode = a .1;
+    }
+
+-- a legal register fits, has no twins, and lists its own shop
+pub record RegisterLegal (r : Register) : Type 0 where
+  pub fits : RegisterFits r
   pub single : twins (shopsOf r) ≡ false
   pub own : listed r (r .own) ≡ true
-  pub ownCode : code 10 .legal (r .own) ≡ true
 
 pub register-legal : (r : Register) → registerAnswer r ≡ 0 → RegisterLegal r
-unfolding registerAnswer registerLayout
+unfolding registerAnswer
 register-legal r e =
     let one = first-zero Meaning.form _ _ (omega arith) e in
     let twelve = first-zero Meaning.twin _ _ (omega arith) (one .1) in
     let two = first-zero Meaning.shop _ _ (omega arith) (twelve .1) in
-    let a = both (shopsLine .legal (r .count) && _) (ownLine .legal (r .own)) (not-false _ (one .0)) in
-    let b = both (shopsLine .legal (r .count)) _ (a .0) in
-    let c = both (leb 1 (r .count) && leb (r .count) 16) true (b .0) in
-    let d = both (leb 1 (r .count)) (leb (r .count) 16) (c .0) in
-    let g = both (eqb (length (r .shops)) 16) _ (b .1) in
-    let h = both (allOf (shopLine .legal) (take (r .count) (r .shops))) (allOf zeroListed (drop (r .count) (r .shops))) (g .1) in
-    let l = eqb-true (length (r .shops)) 16 (g .0) in
-    record {
-      some = leb-true 1 (r .count) (d .0);
-      most = leb-true (r .count) 16 (d .1);
-      places = l;
-      rest = all-zeros noListed zeroListed zeroListed-is (drop (r .count) (r .shops)) (h .1) ∙ ap (λ k. replicate k noListed) (length-drop (r .count) (r .shops) ∙ ap (λ k. k - r .count) l);
-      used = h .0;
-      single = twelve .0;
-      own = not-false _ (two .0);
-      ownCode = a .1;
-    }
+    record { fits = register-fits r (not-false _ (one .0)); single = twelve .0; own = not-false _ (two .0) }
 
 -- a register that was read is the one that the text carries, and is legal
 pub record Opens (text : List ℕ) : Type 0 where

@@ -2,7 +2,7 @@
 use mathlib.Core.Path.{_≡_, refl, sym, ap, _∙_, subst}
 use mathlib.Core.Bool.{Bool, true, false, _&&_}
 use mathlib.Core.List.{List, [], _∷_, _++_}
-use Prim.Native.Nat.{ℕ, zero, suc, _+_, _*_, _≤_, _<_, _/_, _%_}
+use Prim.Native.Nat.{ℕ, zero, suc, _+_, _*_, _≤_, _<_}
 use native.Mathlib.Omega.{arith}
 use native.Mathlib.Nat.{mul-le-mul-right, le-trans}
 use lib.ListN.{length, take, length-append, length-take}
@@ -11,14 +11,15 @@ use borrow.Author.Tests.{eqb-true, leb-true}
 use Rattle.texts.specs.Bounds.{mostShops, mostDeps, most, registerRoom, slipRoom}
 use Rattle.texts.specs.Bytes.{bytes, allOf}
 use Rattle.texts.specs.Layout.{Layout, word, _⟫_, _then_, of, key, shut, joined, group}
-use Rattle.texts.specs.Leaf.{digits, number, kept}
+use Rattle.texts.specs.Leaf.{number}
 use Rattle.texts.specs.Code.{code}
 use Rattle.texts.specs.Lines.{closed, six, codeLine, numberLine, pairLine}
-use Rattle.texts.specs.Register.{noListed, zeroListed, shopsLine, shopLine, shopLines, ownLine, registerLayout}
-use Rattle.texts.specs.Slip.{noDep, zeroDep, payerLine, slipNumberLine, payeeLine, amountLine, depsLine, depLine, depLines, slipLayout}
+use Rattle.texts.specs.Register.{noListed, zeroListed, shopsLine, shopLine, shopLines, ownLine, registerParts, registerLayout}
+use Rattle.texts.specs.Slip.{noDep, zeroDep, payerLine, slipNumberLine, payeeLine, amountLine, depsLine, depLine, depLines, slipParts, slipLayout}
 use Rattle.texts.specs.declared.register.Register.{Register}
 use Rattle.texts.specs.declared.slip.Slip.{Slip}
 use Rattle.texts.proofs.Steps.{both}
+use Rattle.texts.proofs.LawsLeaf.{digits-length}
 
 -- no text of L is longer than n
 pub record Most {A : Type 0} (L : Layout A) (n : ℕ) : Type 0 where
@@ -39,11 +40,6 @@ key-most w L n P = record { most = λ a h. let e = length-append w (L .text a) i
 
 pub shut-most : {A : Type 0} (L : Layout A) (w : List ℕ) (n : ℕ) → Most L n → Most (shut L w) (n + length w)
 shut-most L w n P = record { most = λ a h. let e = length-append (L .text a) w in let x = P .most a (both (L .legal a) true h .0) in omega arith }
-
-digits-length : (w n : ℕ) → length (digits w n) ≡ w
-unfolding digits
-digits-length zero n = refl
-digits-length (suc w) n = length-append (digits w (n / 10)) ((48 + n % 10) ∷ []) ∙ omega (arith, digits-length w (n / 10))
 
 pub number-most : (w least most : ℕ) → Most (number w least most) w
 number-most w least most = record { most = λ n h. omega (arith, digits-length w n) }
@@ -103,7 +99,7 @@ register-most r h =
     next-most (shopsLine ⟫ shopLines) (λ _. ownLine) 345 13
     (next-most shopsLine shopLines 9 336 (number-line-most (bytes "shops=") 2 1 mostShops 9 refl) (λ n _. group-most mostShops noListed zeroListed shopLine n 21 shop-most))
     (λ _ _. code-line-most (bytes "own=") 13 refl)
-    .most ((r .count, r .shops), r .own) h
+    .most (registerParts r) h
 
 pub slip-most : (s : Slip) → slipLayout .legal s ≡ true → length (slipLayout .text s) ≤ slipRoom
 unfolding slipLayout
@@ -113,4 +109,4 @@ slip-most s h =
     (λ _ _. next-most payeeLine (λ _. amountLine then (depsLine ⟫ depLines)) 15 322 (code-line-most (bytes "payee=") 15 refl)
     (λ _ _. next-most amountLine (λ _. depsLine ⟫ depLines) 14 308 (number-line-most (bytes "amount=") 6 0 most 14 refl)
     (λ _ _. next-most depsLine depLines 8 300 (number-line-most (bytes "deps=") 2 0 mostDeps 8 refl) (λ n _. group-most mostDeps noDep zeroDep depLine n 20 dep-most)))))
-    .most (s .payer, (s .number, (s .payee, (s .amount, (s .count, s .deps))))) h
+    .most (slipParts s) h

@@ -9,3 +9,12 @@ pub mod Examples
 pub mod Legal
 pub mod Lengths
 pub mod Payees
+pub mod Reading
+pub mod Spelling
+pub mod ReadingTexts
+pub mod Writing
+pub mod Putting
+pub mod Values
+pub mod Places
+pub mod Table
+pub mod WritingTexts

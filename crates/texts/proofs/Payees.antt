@@ -1,38 +1,40 @@
 -- The payee's part is the bytes of the payee's code, whichever text it is taken from; of no slip it is empty.
-use mathlib.Core.Path.{_≡_, refl, sym, ap, ap₂, _∙_, subst}
-use mathlib.Core.Bool.{Bool, true, false, _&&_}
+use mathlib.Core.Path.{_≡_, refl, sym, ap, ap₂, _∙_}
+use mathlib.Core.Bool.{Bool, true, false, not, _&&_, and-false, false≢true}
 use mathlib.Core.Option.{Option, none, some}
 use mathlib.Core.List.{List, [], _∷_, _++_, append-assoc}
-use Prim.Native.Nat.{ℕ, zero, suc, _≤_, _<_}
+use Prim.Native.Nat.{ℕ, zero, suc, _+_, _-_, _*_, _≤_, _<_}
 use native.Mathlib.Omega.{arith}
-use lib.ListN.{length, take, drop, getD}
-use lib.Seq.{take-at, drop-append-seam, take-append-seam, take-take, getD-take, length-take-le, split-at}
-use lib.Dec.{eqb, leb}
-use borrow.Author.Tests.{eqb-true, leb-true, ltb-true}
-use Rattle.texts.specs.Bytes.{bytes}
+use lib.ListN.{length, take, drop, getD, length-append, length-take}
+use lib.Seq.{take-at, drop-append-seam, take-take, length-take-le, split-at}
+use lib.Dec.{eqb}
+use borrow.Author.Tests.{eqb-true, eq-eqb, ne-eqb, ltb-true}
+use Rattle.texts.specs.Bytes.{bytes, found, orZeros}
 use Rattle.texts.specs.Layout.{Layout, joined}
-use Rattle.texts.specs.Code.{code, spelled}
-use Rattle.texts.specs.Register.{noListed, shopsLine, shopLine, ownLine, registerLayout, registerIn, place, shopsOf, position, listed, registerRead}
-use Rattle.texts.specs.Slip.{payerLine, slipNumberLine, payeeLine, amountLine, depsLine, slipLayout, slipIn}
-use Rattle.texts.specs.Payee.{Part, shown, beforeShop, beforePayee, payeeOf, payeePart}
+use Rattle.texts.specs.Leaf.{digits}
+use Rattle.texts.specs.Code.{isCode, sameCode, spelled}
+use Rattle.texts.specs.Lines.{six, pairLine}
+use Rattle.texts.specs.Answers.{first, answerOf, form}
+use Rattle.texts.specs.Register.{noListed, shopsLine, shopLine, ownLine, registerLayout, place, shopsOf, position, listed, registerAnswer, registerRead}
+use Rattle.texts.specs.Slip.{noSlip, payerLine, slipNumberLine, amountLine, depsLine, depLine, slipLayout, slipIn, slipRead}
+use Rattle.texts.specs.Payee.{Part, source, shown, placed, beforeShop, beforePayee, inRegister, startInRegister, payeeOf, payeePart}
 use Rattle.texts.specs.declared.code.Code.{Code}
 use Rattle.texts.specs.declared.register.Listed.{Listed}
 use Rattle.texts.specs.declared.register.Register.{Register}
+use Rattle.texts.specs.declared.register.RegisterRead.{RegisterRead}
 use Rattle.texts.specs.declared.slip.Slip.{Slip}
-use Rattle.texts.proofs.Steps.{both}
+use Rattle.texts.specs.declared.slip.SlipRead.{SlipRead}
+use Rattle.texts.proofs.Steps.{both, and, all-used-at}
+use Rattle.texts.proofs.LawsLeaf.{digits-length}
+use Rattle.texts.proofs.LawsGroup.{joined-append}
 use Rattle.texts.proofs.LawsTexts.{register-only, slip-only}
-use Rattle.texts.proofs.Legal.{SlipLegal, slip-legal, RegisterLegal, register-legal, Opens, read-legal, place-at}
+use Rattle.texts.proofs.Legal.{SlipLegal, slip-legal, register-fits, RegisterLegal, register-legal, Opens, read-legal, place-at, code-held, spelled-length}
+use Rattle.texts.proofs.Putting.{joined-more}
+use Rattle.texts.proofs.Reading.{none-if}
 
 part-of : (before mid rest t : List ℕ) (n : ℕ) → length mid ≡ n → t ≡ before ++ (mid ++ rest) → take n (drop (length before) t) ≡ mid
 part-of before mid rest t n l e =
     ap (λ x. take n (drop (length before) x)) e ∙ ap (take n) (drop-append-seam before (mid ++ rest)) ∙ take-at mid rest n l
-
-pub spelled-length : (b : ℕ) (c : Code) → code b .legal c ≡ true → length (spelled c) ≡ c .len
-spelled-length b c e =
-    let k = both (eqb (length (c .digits)) 8) _ e in
-    let l = both (leb 1 (c .len) && leb (c .len) 8) _ (k .1) in
-    let m = leb-true (c .len) 8 (both (leb 1 (c .len)) (leb (c .len) 8) (l .0) .1) in
-    length-take-le (c .len) (c .digits) (omega (arith, eqb-true (length (c .digits)) 8 (k .0)))
 
 -- ---- in the slip's text
 
@@ -43,7 +45,7 @@ in-slip text s e =
     let b = slipNumberLine .text (s .number) in
     let k = bytes "payee=" in
     let m = spelled (s .payee) in
-    let z = amountLine .text (s .amount) ++ (depsLine .text (s .count) ++ joined Rattle.texts.specs.Slip.depLine (take (s .count) (s .deps))) in (
+    let z = amountLine .text (s .amount) ++ (depsLine .text (s .count) ++ joined depLine (take (s .count) (s .deps))) in (
       10 ∷ z,
       slip-only text s e .1
           ∙ ap (λ x. a ++ (b ++ (k ++ x))) (append-assoc m (10 ∷ []) z)
@@ -53,11 +55,6 @@ in-slip text s e =
 
 -- ---- in the register's text
 
-joined-append : {A : Type 0} (L : Layout A) (xs ys : List A) → joined L (xs ++ ys) ≡ joined L xs ++ joined L ys
-unfolding joined
-joined-append L [] ys = refl
-joined-append L (x ∷ xs) ys = ap (λ r. L .text x ++ r) (joined-append L xs ys) ∙ sym (append-assoc (L .text x) (joined L xs) (joined L ys))
-
 in-register : (r : Register) (c : Code) → RegisterLegal r → listed r c ≡ true
     → (rest : List ℕ) × (registerLayout .text r ≡ beforeShop r (position r c) ++ (spelled c ++ rest))
 unfolding registerLayout joined
@@ -65,13 +62,13 @@ in-register r c R e =
     let us = shopsOf r in
     let p = position r c in
     let l = ltb-true p (length us) e in
-    let n = length-take-le (r .count) (r .shops) (omega (arith, R .most, R .places)) in
+    let n = length-take-le (r .count) (r .shops) (omega (arith, R .fits .most, R .fits .places)) in
     let u = getD us p noListed in
     let at : u .code ≡ c = place-at us c noListed l in
     let h = shopsLine .text (r .count) in
     let k = bytes "shop=" in
     let x = joined shopLine (take p us) in
-    let t = Rattle.texts.specs.Lines.six .text (u .opening) in
+    let t = six .text (u .opening) in
     let y = joined shopLine (drop (suc p) us) in
     let o = ownLine .text (r .own) in
     let line : joined shopLine us ≡ x ++ (shopLine .text u ++ y) = ap (joined shopLine) (split-at us p noListed l) ∙ joined-append shopLine (take p us) (u ∷ drop (suc p) us) in
@@ -83,17 +80,133 @@ in-register r c R e =
       ap (λ w. (h ++ w) ++ o) line ∙ flat ∙ ap₂ (λ (w : List ℕ) (d : Code). ((h ++ w) ++ k) ++ (spelled d ++ rest)) front at,
     )
 
+-- ---- where the parts start
+
+-- the length of a line that has a code and six digits
+pair-length : (name : List ℕ) (c : Code) (n : ℕ) → isCode c ≡ true → length (pairLine name .text (c, n)) ≡ length name + c .len + 8
+pair-length name c n h =
+    let w = spelled c in
+    let a = length-append (name ++ (w ++ (58 ∷ []))) (digits 6 n ++ (10 ∷ [])) in
+    let b = length-append name (w ++ (58 ∷ [])) in
+    let d = length-append w (58 ∷ []) in
+    let e = length-append (digits 6 n) (10 ∷ []) in
+    omega (arith, spelled-length c h, digits-length 6 n)
+
+-- the first i shops' lines have been passed
+pub record Started (shops : List Listed) (at i : ℕ) : Type 0 where
+  pub passed : at ≡ 9 + length (joined shopLine (take i shops))
+  pub small : at ≤ 9 + 21 * i
+
+pub started-none : (shops : List Listed) → Started shops 9 0
+unfolding joined
+started-none shops = record { passed = refl; small = omega arith }
+
+module _ (r : Register) (fits : registerLayout .legal r ≡ true) (i : ℕ) (h : i < r .count) (z : Listed) where
+  shop-code : isCode (getD (r .shops) i z .code) ≡ true
+  shop-code =
+      let R = register-fits r fits in
+      both _ _ (all-used-at (shopLine .legal) (r .shops) z (r .count) i (R .used) (omega (arith, R .most, R .places)) h) .0
+
+  pub shop-few : getD (r .shops) i z .code .len ≤ 8
+  shop-few = let c = getD (r .shops) i z .code in omega (arith, code-held c shop-code, eqb-true (length (c .digits)) 8 (both _ _ shop-code .0))
+
+  pub started-more : (at : ℕ) → Started (r .shops) at i → Started (r .shops) (at + 5 + getD (r .shops) i z .code .len + 8) (i + 1)
+  started-more at q =
+      let R = register-fits r fits in
+      let s = getD (r .shops) i z in
+      let e = ap length (joined-more shopLine z (r .shops) i (omega (arith, R .most, R .places))) ∙ length-append (joined shopLine (take i (r .shops))) (shopLine .text s) in
+      let l = pair-length (bytes "shop=") (s .code) (s .opening) shop-code in
+      let few = shop-few in
+      record { passed = omega (arith, q .passed); small = omega (arith, q .small) }
+
+pub started-done : (r : Register) (at p i : ℕ) → i ≡ p → Started (r .shops) at i → at + 5 ≡ length (beforeShop r p)
+started-done r at p i e q =
+    let x = joined shopLine (take p (r .shops)) in
+    let h = shopsLine .text (r .count) in
+    let a = length-append (h ++ x) (bytes "shop=") in
+    let b = length-append h x in
+    let c = length-append (digits 2 (r .count)) (10 ∷ []) in
+    let f : at ≡ 9 + length x = q .passed ∙ ap (λ k. 9 + length (joined shopLine (take k (r .shops)))) e in
+    omega (arith, digits-length 2 (r .count))
+
+-- before the payee's code: the payer's line, the number's line, the key
+payee-start : (s : Slip) → isCode (s .payer) ≡ true → 6 + s .payer .len + 21 ≡ length (beforePayee s)
+payee-start s h =
+    let w = spelled (s .payer) in
+    let n = digits 6 (s .number) in
+    let a = length-append (payerLine .text (s .payer) ++ slipNumberLine .text (s .number)) (bytes "payee=") in
+    let b = length-append (payerLine .text (s .payer)) (slipNumberLine .text (s .number)) in
+    let c = length-append w (10 ∷ []) in
+    let d = length-append n (10 ∷ []) in
+    omega (arith, spelled-length (s .payer) h, digits-length 6 (s .number))
+
+-- ---- what reading answered
+
+pub slip-carried : (t : List ℕ) (x : SlipRead) → x ≡ slipRead t → x .answer ≡ 0 → slipIn t ≡ some (x .slip)
+unfolding slipRead first
+slip-carried t x e h = go (slipIn t) refl
+  where
+    go : (o : Option Slip) → slipIn t ≡ o → slipIn t ≡ some (x .slip)
+    go none i = let z : x .answer ≡ 1 = ap (λ (y : SlipRead). y .answer) e ∙ ap (λ o. answerOf ((form, not (found o)) ∷ [])) i in absurd (omega arith)
+    go (some s) i = i ∙ ap some (sym (ap (λ (y : SlipRead). y .slip) e ∙ ap (orZeros noSlip) i))
+
+pub slip-missing : (t : List ℕ) (x : SlipRead) → x ≡ slipRead t → (x .answer ≡ 0 → ⊥) → slipIn t ≡ none
+unfolding slipRead first
+slip-missing t x e h = none-if (slipIn t) (λ s i. h (ap (λ (y : SlipRead). y .answer) e ∙ ap (λ o. answerOf ((form, not (found o)) ∷ [])) i))
+
+module _ (text : List ℕ) (x : RegisterRead) (e : x ≡ registerRead text) where
+  answer-is : registerRead text .answer ≡ x .answer
+  answer-is = ap (λ (y : RegisterRead). y .answer) (sym e)
+
+  register-is : registerRead text .register ≡ x .register
+  register-is = ap (λ (y : RegisterRead). y .register) (sym e)
+
+  pub read-fits : x .answer ≡ 0 → registerLayout .legal (x .register) ≡ true
+  read-fits h =
+      let O = read-legal text (answer-is ∙ h) in
+      ap (registerLayout .legal) (sym register-is ∙ O .given) ∙ register-only text (O .register) (O .carried) .0
+
+  module _ (c : Code) where
+    in-is : inRegister text c ≡ eqb (x .answer) 0 && listed (x .register) c
+    in-is = ap (λ (y : RegisterRead). eqb (y .answer) 0 && listed (y .register) c) (sym e)
+
+    pub spot-there : (t : Bool) (p start : ℕ) → x .answer ≡ 0 → t ≡ listed (x .register) c → t ≡ true → p ≡ position (x .register) c → start ≡ length (beforeShop (x .register) p)
+        → (true ≡ inRegister text c) × (_≡_ {A = Bool} true true → start ≡ startInRegister text c)
+    spot-there t p start h l y q s = (
+      sym (in-is ∙ and _ _ (eq-eqb (x .answer) 0 h) (sym l ∙ y)),
+      λ _. s ∙ ap (λ k. length (beforeShop (x .register) k)) q ∙ ap (λ r. length (beforeShop r (position r c))) (sym register-is),
+    )
+
+    pub spot-unlisted : (t : Bool) (start : ℕ) → t ≡ listed (x .register) c → t ≡ false → (false ≡ inRegister text c) × (_≡_ {A = Bool} false true → start ≡ startInRegister text c)
+    spot-unlisted t start l n = (
+      sym (in-is ∙ ap (λ b. eqb (x .answer) 0 && b) (sym l ∙ n) ∙ and-false (eqb (x .answer) 0)),
+      λ f. absurd (false≢true f),
+    )
+
+    pub spot-refused : (start : ℕ) → (x .answer ≡ 0 → ⊥) → (false ≡ inRegister text c) × (_≡_ {A = Bool} false true → start ≡ startInRegister text c)
+    spot-refused start h = (sym (in-is ∙ ap (λ b. b && listed (x .register) c) (ne-eqb (x .answer) 0 h)), λ f. absurd (false≢true f))
+
+pub place-within : (us : List Listed) (c : Code) → place us c ≤ length us
+unfolding place
+place-within [] c = omega arith
+place-within (s ∷ us) c = go (sameCode (s .code) c) refl (place-within us c)
+  where
+    go : (t : Bool) → sameCode (s .code) c ≡ t → place us c ≤ length us → place (s ∷ us) c ≤ suc (length us)
+    go true e h = rw (e, place) (omega arith)
+    go false e h = rw (e, place) (omega arith)
+
+pub position-within : (r : Register) (c : Code) (p : ℕ) → p ≡ position r c → p ≤ r .count
+position-within r c p e = omega (arith, place-within (shopsOf r) c, length-take (r .count) (r .shops))
+
 -- ---- the part
 
 abbrev here : List ℕ → Slip → Part
-here register s =
-    let r = registerRead register .register in
-    record { ofRegister = true; start = length (beforeShop r (position r (s .payee))); size = s .payee .len }
+here register s = record { ofRegister = true; start = startInRegister register (s .payee); size = s .payee .len }
 
 abbrev there : Slip → Part
 there s = record { ofRegister = false; start = length (beforePayee s); size = s .payee .len }
 
-pick : (register : List ℕ) (s : Slip) (t : Bool) → (eqb (registerRead register .answer) 0 && listed (registerRead register .register) (s .payee)) ≡ t
+pick : (register : List ℕ) (s : Slip) (t : Bool) → inRegister register (s .payee) ≡ t
     → payeeOf register s ≡ elim t as (λ _. Part) [ true ↦ here register s | false ↦ there s ]
 unfolding payeeOf
 pick register s t e = ap (λ (t : Bool). elim t as (λ _. Part) [ true ↦ here register s | false ↦ there s ]) e
@@ -102,28 +215,107 @@ some-part : (register slip : List ℕ) (s : Slip) → slipIn slip ≡ some s →
 unfolding payeePart
 some-part register slip s e = rw (e, payeePart)
 
-pub payee-bytes : (register slip : List ℕ) (s : Slip) → slipIn slip ≡ some s → shown (payeePart register slip) register slip ≡ spelled (s .payee)
-payee-bytes register slip s e = go (eqb (registerRead register .answer) 0 && listed (registerRead register .register) (s .payee)) refl
-  where
-    len : length (spelled (s .payee)) ≡ s .payee .len
-    len = spelled-length 10 (s .payee) (slip-legal s (slip-only slip s e .0) .payee)
+module _ (register slip : List ℕ) (s : Slip) (e : slipIn slip ≡ some s) where
+  legal : SlipLegal s
+  legal = slip-legal s (slip-only slip s e .0)
 
-    go : (t : Bool) → (eqb (registerRead register .answer) 0 && listed (registerRead register .register) (s .payee)) ≡ t
-        → shown (payeePart register slip) register slip ≡ spelled (s .payee)
-    go true i =
+  len : length (spelled (s .payee)) ≡ s .payee .len
+  len = spelled-length (s .payee) (legal .payee)
+
+  -- the register lists the payee: the code stands there in its text
+  module _ (i : inRegister register (s .payee) ≡ true) where
+    in-text : (rest : List ℕ) × (register ≡ beforeShop (registerRead register .register) (position (registerRead register .register) (s .payee)) ++ (spelled (s .payee) ++ rest))
+    in-text =
         let k = both (eqb (registerRead register .answer) 0) _ i in
         let O = read-legal register (eqb-true _ 0 (k .0)) in
         let r = registerRead register .register in
-        let R = register-legal r (ap Rattle.texts.specs.Register.registerAnswer (O .given) ∙ O .legal) in
+        let R = register-legal r (ap registerAnswer (O .given) ∙ O .legal) in
         let f = in-register r (s .payee) R (k .1) in
-        let t : register ≡ registerLayout .text r = register-only register (O .register) (O .carried) .1 ∙ ap (registerLayout .text) (sym (O .given)) in
-        ap (λ (p : Part). shown p register slip) (some-part register slip s e ∙ pick register s true i)
-        ∙ part-of (beforeShop r (position r (s .payee))) (spelled (s .payee)) (f .0) register (s .payee .len) len (t ∙ f .1)
-    go false i =
-        let f = in-slip slip s e in
-        ap (λ (p : Part). shown p register slip) (some-part register slip s e ∙ pick register s false i)
-        ∙ part-of (beforePayee s) (spelled (s .payee)) (f .0) slip (s .payee .len) len (f .1)
+        (f .0, register-only register (O .register) (O .carried) .1 ∙ ap (registerLayout .text) (sym (O .given)) ∙ f .1)
+
+    pub register-part : payeePart register slip ≡ here register s
+    register-part = some-part register slip s e ∙ pick register s true i
+
+    pub register-room : startInRegister register (s .payee) + s .payee .len ≤ length register
+    register-room =
+        let f = in-text in
+        let r = registerRead register .register in
+        let b = beforeShop r (position r (s .payee)) in
+        omega (arith, ap length (f .1) ∙ length-append b (spelled (s .payee) ++ f .0), length-append (spelled (s .payee)) (f .0), len)
+
+  -- it does not: the code stands in the slip's text
+  module _ (i : inRegister register (s .payee) ≡ false) where
+    pub slip-part : payeePart register slip ≡ there s
+    slip-part = some-part register slip s e ∙ pick register s false i
+
+  pub slip-start : 6 + s .payer .len + 21 ≡ length (beforePayee s)
+  slip-start = payee-start s (legal .payer)
+
+  pub slip-room : 6 + s .payer .len + 21 + s .payee .len ≤ length slip
+  slip-room =
+      let f = in-slip slip s e in
+      omega (arith, slip-start, ap length (f .1) ∙ length-append (beforePayee s) (spelled (s .payee) ++ f .0), length-append (spelled (s .payee)) (f .0), len)
+
+  -- whichever text it is taken from, the part is the bytes of the payee's code
+  pub payee-bytes : shown (payeePart register slip) register slip ≡ spelled (s .payee)
+  payee-bytes = go (inRegister register (s .payee)) refl
+    where
+      go : (t : Bool) → inRegister register (s .payee) ≡ t → shown (payeePart register slip) register slip ≡ spelled (s .payee)
+      go true i =
+          let f = in-text i in
+          let r = registerRead register .register in
+          ap (λ (p : Part). shown p register slip) (register-part i)
+          ∙ part-of (beforeShop r (position r (s .payee))) (spelled (s .payee)) (f .0) register (s .payee .len) len (f .1)
+      go false i =
+          let f = in-slip slip s e in
+          ap (λ (p : Part). shown p register slip) (slip-part i) ∙ part-of (beforePayee s) (spelled (s .payee)) (f .0) slip (s .payee .len) len (f .1)
 
 pub no-payee : (register slip : List ℕ) → slipIn slip ≡ none → payeePart register slip ≡ record { ofRegister = false; start = 0; size = 0 }
 unfolding payeePart
 no-payee register slip e = rw (e, payeePart)
+
+-- ---- what the function shows
+
+-- the part that is shown starts there, is so long, and lies within its text
+pub record Shows (register slip : List ℕ) (part : Part) : Type 0 where
+  pub is : payeePart register slip ≡ part
+  pub room : part .start + part .size ≤ length (source part register slip)
+
+module _ {register slip : List ℕ} {part : Part} (S : Shows register slip part) where
+  -- its bytes, as the checker cuts them out
+  pub shows-bytes : take (part .start + part .size - part .start) (drop (part .start) (source part register slip)) ≡ shown (payeePart register slip) register slip
+  shows-bytes =
+      let e : part .start + part .size - part .start ≡ part .size = omega arith in
+      ap (λ n. take n (drop (part .start) (source part register slip))) e ∙ ap (λ (p : Part). shown p register slip) (sym (S .is))
+
+  -- its place
+  pub shows-place : (p q : ℕ × ℕ) → placed part p q ≡ placed (payeePart register slip) p q
+  shows-place p q = ap (λ (r : Part). placed r p q) (sym (S .is))
+
+module _ (register slip : List ℕ) (x : SlipRead) (e : x ≡ slipRead slip) where
+  -- no slip: the empty part at the slip's start
+  pub shows-none : (x .answer ≡ 0 → ⊥) → Shows register slip (record { ofRegister = false; start = 0; size = 0 })
+  shows-none h = record { is = no-payee register slip (slip-missing slip x e h); room = omega arith }
+
+  module _ (h : x .answer ≡ 0) (t : Bool) (start : ℕ)
+      (spot : (t ≡ inRegister register (x .slip .payee)) × (t ≡ true → start ≡ startInRegister register (x .slip .payee))) where
+    -- the register lists the payee: there
+    pub shows-listed : t ≡ true → Shows register slip (record { ofRegister = true; start = start; size = x .slip .payee .len })
+    shows-listed y =
+        let carried = slip-carried slip x e h in
+        let i = sym (spot .0) ∙ y in
+        let s = spot .1 y in
+        record {
+          is = register-part register slip (x .slip) carried i ∙ ap (λ n. record { ofRegister = true; start = n; size = x .slip .payee .len }) (sym s);
+          room = omega (arith, register-room register slip (x .slip) carried i);
+        }
+
+    -- it does not: in the slip
+    pub shows-unlisted : t ≡ false → Shows register slip (record { ofRegister = false; start = 6 + x .slip .payer .len + 21; size = x .slip .payee .len })
+    shows-unlisted n =
+        let carried = slip-carried slip x e h in
+        record {
+          is = slip-part register slip (x .slip) carried (sym (spot .0) ∙ n)
+              ∙ ap (λ n. record { ofRegister = false; start = n; size = x .slip .payee .len }) (sym (slip-start register slip (x .slip) carried));
+          room = slip-room register slip (x .slip) carried;
+        }

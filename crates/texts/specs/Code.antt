@@ -13,13 +13,20 @@ use Rattle.texts.specs.declared.code.Code.{Code}
 abbrev pub noCode : Code
 noCode = record { digits = replicate codePlaces 0; len = 0 }
 
+-- A code and its parts.
+abbrev pub codeParts : Code → List ℕ × ℕ
+codeParts c = (c .digits, c .len)
+
+abbrev pub partsCode : List ℕ × ℕ → Code
+partsCode p = record { digits = p .0; len = p .1 }
+
 -- A code, and the byte that closes it.
 abbrev pub code : ℕ → Layout Code
-code closing = of (λ c. (c .digits, c .len)) (λ p. record { digits = p .0; len = p .1 }) (kept codePlaces closing)
+code closing = of codeParts partsCode (kept codePlaces closing)
 
 -- A value that is a code, whatever closes it.
 abbrev pub isCode : Code → Bool
-isCode c = keptDigits codePlaces (c .digits, c .len)
+isCode c = keptDigits codePlaces (codeParts c)
 
 unfoldable pub sameCode : Code → Code → Bool
 sameCode a b = eqb (a .len) (b .len) && sameBytes (a .digits) (b .digits)

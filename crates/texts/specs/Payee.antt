@@ -7,8 +7,9 @@ use lib.ListN.{length, take, drop}
 use lib.Dec.{eqb}
 use Rattle.texts.specs.Bytes.{bytes}
 use Rattle.texts.specs.Layout.{joined}
-use Rattle.texts.specs.Register.{shopsLine, shopLine, shopsOf, position, listed, registerRead}
+use Rattle.texts.specs.Register.{shopsLine, shopLine, position, listed, registerRead}
 use Rattle.texts.specs.Slip.{payerLine, slipNumberLine, slipIn}
+use Rattle.texts.specs.declared.code.Code.{Code}
 use Rattle.texts.specs.declared.register.Register.{Register}
 use Rattle.texts.specs.declared.slip.Slip.{Slip}
 
@@ -18,9 +19,12 @@ pub record Part : Type 0 where
   pub start : ℕ
   pub size : ℕ
 
--- The bytes of a part of one of two texts.
+-- The text that it is a part of, and its bytes.
+abbrev pub source : Part → List ℕ → List ℕ → List ℕ
+source p register slip = elim (p .ofRegister) [ true ↦ register | false ↦ slip ]
+
 abbrev pub shown : Part → List ℕ → List ℕ → List ℕ
-shown p register slip = take (p .size) (drop (p .start) (elim (p .ofRegister) [ true ↦ register | false ↦ slip ]))
+shown p register slip = take (p .size) (drop (p .start) (source p register slip))
 
 -- Where a part stands in memory, from where the two texts stand there.
 abbrev pub placed : Part → ℕ × ℕ → ℕ × ℕ → ℕ × ℕ
@@ -34,13 +38,19 @@ beforeShop r p = shopsLine .text (r .count) ++ joined shopLine (take p (r .shops
 abbrev pub beforePayee : Slip → List ℕ
 beforePayee s = payerLine .text (s .payer) ++ slipNumberLine .text (s .number) ++ bytes "payee="
 
+-- Does the register's text, where it is not refused, list a code, and where does the code start there.
+abbrev pub inRegister : List ℕ → Code → Bool
+inRegister register c = eqb (registerRead register .answer) 0 && listed (registerRead register .register) c
+
+abbrev pub startInRegister : List ℕ → Code → ℕ
+startInRegister register c = let r = registerRead register .register in length (beforeShop r (position r c))
+
 -- "as the part of the register text where that shop is listed, otherwise as the part of the slip text. If the register would be
 -- refused, it is the slip's part."
 unfoldable pub payeeOf : List ℕ → Slip → Part
 payeeOf register s =
-    let r = registerRead register in
-    elim (eqb (r .answer) 0 && listed (r .register) (s .payee)) [
-      | true ↦ record { ofRegister = true; start = length (beforeShop (r .register) (position (r .register) (s .payee))); size = s .payee .len }
+    elim (inRegister register (s .payee)) [
+      | true ↦ record { ofRegister = true; start = startInRegister register (s .payee); size = s .payee .len }
       | false ↦ record { ofRegister = false; start = length (beforePayee s); size = s .payee .len }
     ]
 

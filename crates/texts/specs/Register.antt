@@ -35,8 +35,15 @@ zeroListed s = sameCode (s .code) noCode && eqb (s .opening) 0
 abbrev pub shopsLine : Layout ℕ
 shopsLine = numberLine (bytes "shops=") 2 1 mostShops
 
+-- A shop and its parts.
+abbrev pub listedParts : Listed → Code × ℕ
+listedParts s = (s .code, s .opening)
+
+abbrev pub partsListed : Code × ℕ → Listed
+partsListed p = record { code = p .0; opening = p .1 }
+
 abbrev pub shopLine : Layout Listed
-shopLine = of (λ s. (s .code, s .opening)) (λ p. record { code = p .0; opening = p .1 }) (pairLine (bytes "shop="))
+shopLine = of listedParts partsListed (pairLine (bytes "shop="))
 
 abbrev pub shopLines : ℕ → Layout (List Listed)
 shopLines = group mostShops noListed zeroListed shopLine
@@ -44,10 +51,15 @@ shopLines = group mostShops noListed zeroListed shopLine
 abbrev pub ownLine : Layout Code
 ownLine = codeLine (bytes "own=")
 
+-- A register and its parts.
+abbrev pub registerParts : Register → (ℕ × List Listed) × Code
+registerParts r = ((r .count, r .shops), r .own)
+
+abbrev pub partsRegister : (ℕ × List Listed) × Code → Register
+partsRegister p = record { count = p .0 .0; shops = p .0 .1; own = p .1 }
+
 unfoldable pub registerLayout : Layout Register
-registerLayout =
-    of (λ r. ((r .count, r .shops), r .own)) (λ p. record { count = p .0 .0; shops = p .0 .1; own = p .1 })
-    ((shopsLine ⟫ shopLines) then ownLine)
+registerLayout = of registerParts partsRegister ((shopsLine ⟫ shopLines) then ownLine)
 
 -- The register that a text carries, if any.
 unfoldable pub registerIn : List ℕ → Option Register

@@ -48,23 +48,40 @@ amountLine = numberLine (bytes "amount=") 6 0 most
 abbrev pub depsLine : Layout ℕ
 depsLine = numberLine (bytes "deps=") 2 0 mostDeps
 
+-- A dependency and its parts.
+abbrev pub depParts : Dep → Code × ℕ
+depParts d = (d .code, d .number)
+
+abbrev pub partsDep : Code × ℕ → Dep
+partsDep p = record { code = p .0; number = p .1 }
+
 abbrev pub depLine : Layout Dep
-depLine = of (λ d. (d .code, d .number)) (λ p. record { code = p .0; number = p .1 }) (pairLine (bytes "dep="))
+depLine = of depParts partsDep (pairLine (bytes "dep="))
 
 abbrev pub depLines : ℕ → Layout (List Dep)
 depLines = group mostDeps noDep zeroDep depLine
 
-unfoldable pub slipLayout : Layout Slip
-slipLayout =
-    of (λ s. (s .payer, (s .number, (s .payee, (s .amount, (s .count, s .deps))))))
-    (λ p. record {
+-- A slip and its parts.
+abbrev pub SlipParts : Type 0
+SlipParts = Code × (ℕ × (Code × (ℕ × (ℕ × List Dep))))
+
+abbrev pub slipParts : Slip → SlipParts
+slipParts s = (s .payer, (s .number, (s .payee, (s .amount, (s .count, s .deps)))))
+
+abbrev pub partsSlip : SlipParts → Slip
+partsSlip p =
+    record {
       payer = p .0;
       number = p .1 .0;
       payee = p .1 .1 .0;
       amount = p .1 .1 .1 .0;
       count = p .1 .1 .1 .1 .0;
       deps = p .1 .1 .1 .1 .1;
-    })
+    }
+
+unfoldable pub slipLayout : Layout Slip
+slipLayout =
+    of slipParts partsSlip
     (payerLine then slipNumberLine then payeeLine then amountLine then (depsLine ⟫ depLines))
 
 -- The slip that a text carries, if any.

@@ -1,7 +1,30 @@
 // The register: the shops in their order with their opening credit, and which of them is the own shop.
+use crate::answers::FORM;
+use crate::answers::OK;
+use crate::answers::ROOM;
+use crate::answers::SHOP;
+use crate::answers::TWIN;
+use crate::bounds::REGISTER_ROOM;
 use crate::bounds::SHOPS;
 use crate::code::Code;
 use crate::cursor::Cursor;
+use crate::lines::code_line;
+use crate::lines::number_line;
+use crate::lines::pair_line;
+use crate::pair::pair_passes;
+use crate::pen::Written;
+use crate::pen::put_code_line;
+use crate::pen::put_number_line;
+use crate::pen::put_pair_line;
+ghost use mathlib.Core.Path.{_≡_};
+ghost use mathlib.Core.Bool.{true, _&&_};
+ghost use mathlib.Core.List.{_∷_, []};
+ghost use Prim.Native.Nat.{_+_, _≤_};
+ghost use lib.ListN.{length, take, drop};
+ghost use Rattle.texts.specs.Bytes.{allOf};
+ghost use Rattle.texts.specs.Register.{noListed, noRegister, zeroListed, shopLine, shopLines, registerLayout, place, twins, shopsOf, position, listed, ownRows, registerAnswer, registerRead, registerWritten, registerBuffer};
+ghost use Rattle.texts.specs.Answers.{answerOf};
+ghost use Rattle.texts.specs.Inside.{Reads, Room, Wrote};
 
 // A shop of the register, with its opening credit.
 pub struct Listed {
@@ -32,4 +55,260 @@ struct ShopsAt {
 struct RegisterAt {
     register: Register,
     next: Cursor,
+}
+
+// ---- the shops
+
+fn no_listed() -> Listed
+    ensures { λ r. ⌜ r ≡ noListed ⌝ }
+{
+    let code = Code::none();
+    Listed { code, opening: 0 }
+}
+
+// The position of a code among the first n shops, looked for from a position on; past the last where it is not there.
+fn place_from(shops: [Listed; SHOPS], n: usize, from: usize, code: Code) -> usize
+    requires { ⌜ (n ≤ 16) × (from ≤ n) ⌝ }
+    ensures { λ r. ⌜ r ≡ from + place (drop from (take n shops)) code ⌝ }
+{
+    let mut i = from;
+    while i < n {
+        let shop = shops[i];
+        let here = shop.code;
+        if here.same(code) {
+            return i;
+        }
+        i += 1;
+    }
+    i
+}
+
+// Are there two equal codes among the first n shops.
+fn has_twins(shops: [Listed; SHOPS], n: usize) -> bool
+    requires { ⌜ n ≤ 16 ⌝ }
+    ensures { λ r. ⌜ r ≡ twins (take n shops) ⌝ }
+{
+    let mut i = 0;
+    while i < n {
+        let shop = shops[i];
+        i += 1;
+        if place_from(shops, n, i, shop.code) < n {
+            return true;
+        }
+    }
+    false
+}
+
+// Could a text carry these shops: the first n are shops, and the other places are zero.
+fn shops_fit(shops: [Listed; SHOPS], n: usize) -> bool
+    ensures { λ r. ⌜ r ≡ allOf (shopLine .legal) (take n shops) && allOf zeroListed (drop n shops) ⌝ }
+{
+    let mut i = 0;
+    while i < SHOPS {
+        let shop = shops[i];
+        if !pair_passes(shop.code, shop.opening, i < n) {
+            return false;
+        }
+        i += 1;
+    }
+    true
+}
+
+impl Register {
+    // The register of zeros.
+    pub fn none() -> Self
+        ensures { λ r. ⌜ r ≡ noRegister ⌝ }
+    {
+        let own = Code::none();
+        let listed = no_listed();
+        Register {
+            count: 0,
+            shops: [listed; SHOPS],
+            own,
+        }
+    }
+
+    // How many shops are in use.
+    fn size(self) -> usize
+        ensures { λ r. ⌜ (r ≤ 16) × (r ≡ length (shopsOf self)) ⌝ }
+    {
+        let n = self.count;
+        if SHOPS < n {
+            return SHOPS;
+        }
+        n
+    }
+
+    // The position of a code; the number of shops where it is not listed.
+    pub fn position(self, code: Code) -> usize
+        ensures { λ r. ⌜ r ≡ position self code ⌝ }
+    {
+        let shops = self.shops;
+        let n = self.size();
+        place_from(shops, n, 0, code)
+    }
+
+    // Is the code listed.
+    pub fn lists(self, code: Code) -> bool
+        ensures { λ r. ⌜ r ≡ listed self code ⌝ }
+    {
+        self.position(code) < self.size()
+    }
+
+    // Could a text carry it.
+    pub fn fits(self) -> bool
+        ensures { λ r. ⌜ r ≡ registerLayout .legal self ⌝ }
+    {
+        let n = self.count;
+        let shops = self.shops;
+        let own = self.own;
+        if n < 1 {
+            return false;
+        }
+        if SHOPS < n {
+            return false;
+        }
+        if own.fits() {
+            return shops_fit(shops, n);
+        }
+        false
+    }
+
+    // Two equal codes, or an own code that is not listed: 12, 2 or 0.
+    fn own_answer(self) -> u8
+        ensures { λ r. ⌜ r ≡ answerOf (ownRows self) ⌝ }
+    {
+        let shops = self.shops;
+        let own = self.own;
+        let n = self.size();
+        if has_twins(shops, n) {
+            return TWIN;
+        }
+        if self.lists(own) {
+            return OK;
+        }
+        SHOP
+    }
+
+    // Is it a legal register: 1, 12, 2 or 0.
+    pub fn answer(self) -> u8
+        ensures { λ r. ⌜ r ≡ registerAnswer self ⌝ }
+    {
+        if self.fits() {
+            return self.own_answer();
+        }
+        FORM
+    }
+}
+
+// ---- reading
+
+// The lines of n shops.
+fn shops_at(s: &[u8], c: Cursor, n: usize) -> ShopsAt
+    requires { ⌜ n ≤ 16 ⌝ }
+    ensures { λ r. ⌜ Reads (shopLines n) (now (s .entry)) c (r .shops) (r .next) ⌝ }
+{
+    let none = no_listed();
+    let mut shops = [none; SHOPS];
+    let mut next = c;
+    let mut i = 0;
+    while i < n {
+        let line = pair_line(s, next, b"shop=");
+        let code = line.code;
+        shops[i] = Listed {
+            code,
+            opening: line.number,
+        };
+        next = line.next;
+        i += 1;
+    }
+    ShopsAt { shops, next }
+}
+
+// A register, line by line.
+fn register_at(s: &[u8], c: Cursor) -> RegisterAt
+    ensures { λ r. ⌜ Reads registerLayout (now (s .entry)) c (r .register) (r .next) ⌝ }
+{
+    let head = number_line(s, c, b"shops=", 2, 1, SHOPS as u32);
+    let count = head.value as usize;
+    let list = shops_at(s, head.next, count);
+    let shops = list.shops;
+    let tail = code_line(s, list.next, b"own=", b'\n');
+    let own = tail.code;
+    let next = tail.next;
+    let register = Register { count, shops, own };
+    RegisterAt { register, next }
+}
+
+// The register that a text carries.
+pub fn read_register(text: &[u8]) -> RegisterRead
+    ensures { λ r. ⌜ r ≡ registerRead (now (text .entry)) ⌝ }
+{
+    let none = Register::none();
+    let found = register_at(text, Cursor::start());
+    let register = found.register;
+    let next = found.next;
+    if next.ends(text) {
+        let answer = register.own_answer();
+        if answer == OK {
+            return RegisterRead { answer, register };
+        }
+        return RegisterRead {
+            answer,
+            register: none,
+        };
+    }
+    RegisterRead {
+        answer: FORM,
+        register: none,
+    }
+}
+
+// ---- writing
+
+// The lines of n shops.
+fn put_shops(buf: &mut [u8], at: usize, shops: [Listed; SHOPS], n: usize) -> usize
+    requires { ⌜ (n ≤ 16) × (allOf (shopLine .legal) (take n shops) ≡ true) × Room (now buf) at (shopLines n .text shops) ⌝ }
+    ensures { λ r. ⌜ Wrote (now (buf .entry)) at (shopLines n .text shops) (now (buf .exit)) r ⌝ }
+{
+    let mut next = at;
+    let mut i = 0;
+    while i < n {
+        let shop = shops[i];
+        next = put_pair_line(buf, next, b"shop=", shop.code, shop.opening);
+        i += 1;
+    }
+    next
+}
+
+// A register, line by line.
+fn put_register(buf: &mut [u8], r: Register) -> usize
+    requires { ⌜ (registerLayout .legal r ≡ true) × Room (now buf) 0 (registerLayout .text r) ⌝ }
+    ensures { λ n. ⌜ Wrote (now (buf .entry)) 0 (registerLayout .text r) (now (buf .exit)) n ⌝ }
+{
+    let count = r.count;
+    let shops = r.shops;
+    let own = r.own;
+    let head = put_number_line(buf, 0, b"shops=", count as u32, 2);
+    let list = put_shops(buf, head, shops, count);
+    put_code_line(buf, list, b"own=", own, b'\n')
+}
+
+// Writes a register's text at the front of a lent buffer.
+pub fn write_register(register: Register, buffer: &mut [u8]) -> Written
+    ensures answer { λ r. ⌜ r ≡ registerWritten register (now (buffer .entry)) ⌝ }
+    ensures bytes { λ r. ⌜ now (buffer .exit) ≡ registerBuffer register (now (buffer .entry)) ⌝ }
+{
+    if buffer.len() < REGISTER_ROOM {
+        return Written {
+            answer: ROOM,
+            count: 0,
+        };
+    }
+    let answer = register.answer();
+    if answer == OK {
+        let count = put_register(buffer, register);
+        return Written { answer, count };
+    }
+    Written { answer, count: 0 }
 }

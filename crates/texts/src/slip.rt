@@ -1,7 +1,27 @@
 // The slip: who pays whom how much, and which slips of other shops it depends on.
+use crate::answers::FORM;
+use crate::answers::OK;
+use crate::answers::ROOM;
 use crate::bounds::DEPS;
+use crate::bounds::MOST;
+use crate::bounds::SLIP_ROOM;
 use crate::code::Code;
 use crate::cursor::Cursor;
+use crate::lines::code_line;
+use crate::lines::number_line;
+use crate::lines::pair_line;
+use crate::pair::pair_passes;
+use crate::pen::Written;
+use crate::pen::put_code_line;
+use crate::pen::put_number_line;
+use crate::pen::put_pair_line;
+ghost use mathlib.Core.Path.{_≡_};
+ghost use mathlib.Core.Bool.{true, _&&_};
+ghost use Prim.Native.Nat.{_≤_};
+ghost use lib.ListN.{take, drop};
+ghost use Rattle.texts.specs.Bytes.{allOf};
+ghost use Rattle.texts.specs.Slip.{noDep, noSlip, zeroDep, depLine, depLines, slipLayout, slipRead, slipWritten, slipBuffer};
+ghost use Rattle.texts.specs.Inside.{Reads, Room, Wrote};
 
 // A dependency: the first `number` slips of that shop.
 pub struct Dep {
@@ -35,4 +55,191 @@ struct DepsAt {
 struct SlipAt {
     slip: Slip,
     next: Cursor,
+}
+
+fn no_dep() -> Dep
+    ensures { λ r. ⌜ r ≡ noDep ⌝ }
+{
+    let code = Code::none();
+    Dep { code, number: 0 }
+}
+
+// Could a text carry these dependencies: the first n are dependencies, and the other places are zero.
+fn deps_fit(deps: [Dep; DEPS], n: usize) -> bool
+    ensures { λ r. ⌜ r ≡ allOf (depLine .legal) (take n deps) && allOf zeroDep (drop n deps) ⌝ }
+{
+    let mut i = 0;
+    while i < DEPS {
+        let dep = deps[i];
+        if !pair_passes(dep.code, dep.number, i < n) {
+            return false;
+        }
+        i += 1;
+    }
+    true
+}
+
+impl Slip {
+    // The slip of zeros.
+    pub fn none() -> Self
+        ensures { λ r. ⌜ r ≡ noSlip ⌝ }
+    {
+        let code = Code::none();
+        let dep = no_dep();
+        Slip {
+            payer: code,
+            number: 0,
+            payee: code,
+            amount: 0,
+            count: 0,
+            deps: [dep; DEPS],
+        }
+    }
+
+    // Could a text carry it.
+    pub fn fits(self) -> bool
+        ensures { λ r. ⌜ r ≡ slipLayout .legal self ⌝ }
+    {
+        let payer = self.payer;
+        let payee = self.payee;
+        let deps = self.deps;
+        let n = self.count;
+        if MOST < self.number {
+            return false;
+        }
+        if MOST < self.amount {
+            return false;
+        }
+        if DEPS < n {
+            return false;
+        }
+        if payer.fits() {
+            if payee.fits() {
+                return deps_fit(deps, n);
+            }
+        }
+        false
+    }
+}
+
+// ---- reading
+
+// The lines of n dependencies.
+fn deps_at(s: &[u8], c: Cursor, n: usize) -> DepsAt
+    requires { ⌜ n ≤ 15 ⌝ }
+    ensures { λ r. ⌜ Reads (depLines n) (now (s .entry)) c (r .deps) (r .next) ⌝ }
+{
+    let none = no_dep();
+    let mut deps = [none; DEPS];
+    let mut next = c;
+    let mut i = 0;
+    while i < n {
+        let line = pair_line(s, next, b"dep=");
+        let code = line.code;
+        deps[i] = Dep {
+            code,
+            number: line.number,
+        };
+        next = line.next;
+        i += 1;
+    }
+    DepsAt { deps, next }
+}
+
+// A slip, line by line.
+fn slip_at(s: &[u8], c: Cursor) -> SlipAt
+    ensures { λ r. ⌜ Reads slipLayout (now (s .entry)) c (r .slip) (r .next) ⌝ }
+{
+    let paying = code_line(s, c, b"payer=", b'\n');
+    let payer = paying.code;
+    let numbered = number_line(s, paying.next, b"number=", 6, 0, MOST);
+    let paid = code_line(s, numbered.next, b"payee=", b'\n');
+    let payee = paid.code;
+    let moved = number_line(s, paid.next, b"amount=", 6, 0, MOST);
+    let head = number_line(s, moved.next, b"deps=", 2, 0, DEPS as u32);
+    let count = head.value as usize;
+    let list = deps_at(s, head.next, count);
+    let deps = list.deps;
+    let next = list.next;
+    let slip = Slip {
+        payer,
+        number: numbered.value,
+        payee,
+        amount: moved.value,
+        count,
+        deps,
+    };
+    SlipAt { slip, next }
+}
+
+// The slip that a text carries.
+pub fn read_slip(text: &[u8]) -> SlipRead
+    ensures { λ r. ⌜ r ≡ slipRead (now (text .entry)) ⌝ }
+{
+    let none = Slip::none();
+    let found = slip_at(text, Cursor::start());
+    let slip = found.slip;
+    let next = found.next;
+    if next.ends(text) {
+        return SlipRead { answer: OK, slip };
+    }
+    SlipRead {
+        answer: FORM,
+        slip: none,
+    }
+}
+
+// ---- writing
+
+// The lines of n dependencies.
+fn put_deps(buf: &mut [u8], at: usize, deps: [Dep; DEPS], n: usize) -> usize
+    requires { ⌜ (n ≤ 15) × (allOf (depLine .legal) (take n deps) ≡ true) × Room (now buf) at (depLines n .text deps) ⌝ }
+    ensures { λ r. ⌜ Wrote (now (buf .entry)) at (depLines n .text deps) (now (buf .exit)) r ⌝ }
+{
+    let mut next = at;
+    let mut i = 0;
+    while i < n {
+        let dep = deps[i];
+        next = put_pair_line(buf, next, b"dep=", dep.code, dep.number);
+        i += 1;
+    }
+    next
+}
+
+// A slip, line by line.
+fn put_slip(buf: &mut [u8], s: Slip) -> usize
+    requires { ⌜ (slipLayout .legal s ≡ true) × Room (now buf) 0 (slipLayout .text s) ⌝ }
+    ensures { λ n. ⌜ Wrote (now (buf .entry)) 0 (slipLayout .text s) (now (buf .exit)) n ⌝ }
+{
+    let payer = s.payer;
+    let payee = s.payee;
+    let count = s.count;
+    let deps = s.deps;
+    let paying = put_code_line(buf, 0, b"payer=", payer, b'\n');
+    let numbered = put_number_line(buf, paying, b"number=", s.number, 6);
+    let paid = put_code_line(buf, numbered, b"payee=", payee, b'\n');
+    let moved = put_number_line(buf, paid, b"amount=", s.amount, 6);
+    let head = put_number_line(buf, moved, b"deps=", count as u32, 2);
+    put_deps(buf, head, deps, count)
+}
+
+// Writes a slip's text at the front of a lent buffer.
+pub fn write_slip(slip: Slip, buffer: &mut [u8]) -> Written
+    ensures answer { λ r. ⌜ r ≡ slipWritten slip (now (buffer .entry)) ⌝ }
+    ensures bytes { λ r. ⌜ now (buffer .exit) ≡ slipBuffer slip (now (buffer .entry)) ⌝ }
+{
+    if buffer.len() < SLIP_ROOM {
+        return Written {
+            answer: ROOM,
+            count: 0,
+        };
+    }
+    if slip.fits() {
+        let count = put_slip(buffer, slip);
+        return Written { answer: OK, count };
+    }
+    Written {
+        answer: FORM,
+        count: 0,
+    }
 }

@@ -1,0 +1,58 @@
+-- The bytes passed are the same in both, and the loop stops at the first that is not.
+use Prim.Native.Nat.{_-_, _≤_}
+use mathlib.Core.Path.{_≡_}
+use lib.ListN.{length, take}
+use borrow.Author.Needs.{needs}
+use Rattle.texts.proofs.Spelling.{same-more}
+use borrow.Author.Needs.{needs}
+use Rattle.texts.proofs.cursor.common.Statement.{statement}
+use Rattle.texts.proofs.cursor.common.Tie as tie
+
+abbrev Inv-loop : tie.InvT-loop
+Inv-loop t w i₀ i = (i ≤ length t) × (i ≤ length w) × (take i t ≡ take i w)
+
+abbrev μ-loop : tie.MeasureT-loop
+μ-loop t w i₀ i = length w - i
+
+loop-holds : tie.Need-loop-holds Inv-loop μ-loop
+loop-holds c = search needs
+
+returns : tie.Need-returns Inv-loop μ-loop
+returns c = search needs
+
+shared-slice-read-if2 : tie.Need-shared-slice-read-if2 Inv-loop μ-loop
+shared-slice-read-if2 c = search needs
+
+shared-slice-read-if2-2 : tie.Need-shared-slice-read-if2-2 Inv-loop μ-loop
+shared-slice-read-if2-2 c = search needs
+
+returns-2 : tie.Need-returns-2 Inv-loop μ-loop
+returns-2 c = search needs
+
+add-i : tie.Need-add-i Inv-loop μ-loop
+add-i c = search needs
+
+loop-less : tie.Need-loop-less Inv-loop μ-loop
+loop-less c = search needs
+
+loop-again : tie.Need-loop-again Inv-loop μ-loop
+loop-again c = search (same-more, needs)
+
+returns-3 : tie.Need-returns-3 Inv-loop μ-loop
+returns-3 c = search needs
+
+pub common-spec : {M : Type 1} → statement M
+common-spec =
+    tie.close
+    (tie.spec
+    Inv-loop
+    μ-loop
+    loop-holds
+    returns
+    shared-slice-read-if2
+    shared-slice-read-if2-2
+    returns-2
+    add-i
+    loop-less
+    loop-again
+    returns-3)

@@ -1,0 +1,76 @@
+-- The lines of the dependencies are written one after the other: after i turns those of the first i stand in the buffer.
+use borrow.Author.Needs.{needs}
+use mathlib.Core.List.{[]}
+use Prim.Native.Nat.{_-_}
+use native.Mathlib.Omega.{arith}
+use Rattle.texts.specs.Slip.{depLine}
+use Rattle.texts.specs.declared.slip.Dep.{Dep}
+use Rattle.texts.proofs.Steps.{both}
+use Rattle.texts.proofs.Putting.{Putting, putting-none, putting-legal, putting-room, putting-more, putting-done}
+use Rattle.texts.proofs.slip.put_deps.Statement.{statement}
+use Rattle.texts.proofs.slip.put_deps.Tie as tie
+
+-- A place past the end, as the checker has it.
+abbrev blank : Dep
+blank = record { code = record { digits = []; len = 0 }; number = 0 }
+
+abbrev Inv-loop : tie.InvT-loop
+Inv-loop buf₀ at n deps next₀ i₀ t9 buf next i = Putting depLine buf₀ at deps n buf next i
+
+abbrev μ-loop : tie.MeasureT-loop
+μ-loop buf₀ at n deps next₀ i₀ t9 buf next i = n - i
+
+loop-holds : tie.Need-loop-holds Inv-loop μ-loop
+loop-holds c =
+    let s = c .before in
+    putting-none (omega arith) (s .pre .1) (s .pre .2)
+
+mul-dep : tie.Need-mul-dep Inv-loop μ-loop
+mul-dep c = search needs
+
+array-copy-out-dep : tie.Need-array-copy-out-dep Inv-loop μ-loop
+array-copy-out-dep c = search needs
+
+slice-aggregate-put-pair-line : tie.Need-slice-aggregate-put-pair-line Inv-loop μ-loop
+slice-aggregate-put-pair-line c = search needs
+
+put-pair-line-requires : tie.Need-put-pair-line-requires Inv-loop μ-loop
+put-pair-line-requires c κs =
+    let in-loop = c .before .before .before in
+    let inv = in-loop .before .loop .inv in
+    let test = in-loop .loop-test .taken in
+    (both _ _ (putting-legal blank inv test) .0, putting-room blank inv test)
+
+add-i : tie.Need-add-i Inv-loop μ-loop
+add-i c = search needs
+
+loop-less : tie.Need-loop-less Inv-loop μ-loop
+loop-less c = search needs
+
+loop-again : tie.Need-loop-again Inv-loop μ-loop
+loop-again c =
+    let in-loop = c .before .before .before .before .before .before in
+    putting-more blank (in-loop .before .loop .inv) (in-loop .loop-test .taken) (c .before .before .put-pair-line .ensures)
+
+same-length : tie.Need-same-length Inv-loop μ-loop
+same-length c = search needs
+
+returns : tie.Need-returns Inv-loop μ-loop
+returns c = putting-done blank (c .before .loop .inv) (c .loop-test .left)
+
+pub put-deps-spec : {M : Type 1} → statement M
+put-deps-spec =
+    tie.close
+    (tie.spec
+    Inv-loop
+    μ-loop
+    loop-holds
+    mul-dep
+    array-copy-out-dep
+    slice-aggregate-put-pair-line
+    put-pair-line-requires
+    add-i
+    loop-less
+    loop-again
+    same-length
+    returns)
