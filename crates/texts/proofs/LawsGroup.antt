@@ -1,15 +1,15 @@
 -- The two laws of a layout, for a group in an array.
-use mathlib.Core.Path.{_≡_, refl, sym, ap, ap₂, _∙_, subst}
-use mathlib.Core.Bool.{Bool, true, false, _&&_}
-use mathlib.Core.Option.{Option, none, some, Option·some-injective}
+use mathlib.Core.Path.{_≡_, refl, sym, ap, _∙_}
+use mathlib.Core.Bool.{Bool, true}
+use mathlib.Core.Option.{some}
 use mathlib.Core.List.{List, [], _∷_, _++_, append-assoc}
-use Prim.Native.Nat.{ℕ, zero, suc, _-_, _+_, _≤_}
+use Prim.Native.Nat.{ℕ, zero, suc, _-_, _≤_}
 use native.Mathlib.Omega.{arith}
 use lib.ListN.{length, take, drop, replicate, length-append, length-drop, length-replicate, take-append-drop}
 use lib.Seq.{take-at, drop-at, length-take-le}
 use lib.Dec.{eqb}
 use borrow.Author.Tests.{eqb-true, eq-eqb}
-use Rattle.texts.specs.Bytes.{allOf, _>>=_, given}
+use Rattle.texts.specs.Bytes.{allOf, _>>=_}
 use Rattle.texts.specs.Layout.{Layout, joined, several, group}
 use Rattle.texts.specs.Lawful.{Stands, Lawful}
 use Rattle.texts.proofs.Steps.{both, and, bind-at, bind-some, carry, all-zeros, zeros-all}

@@ -1,21 +1,19 @@
 -- Legal registers and slips, taken apart; and positions of codes.
 use mathlib.Core.Path.{_≡_, refl, sym, ap, _∙_}
-use mathlib.Core.Bool.{Bool, true, false, not, _&&_, false≢true}
+use mathlib.Core.Bool.{Bool, true, false, _&&_, false≢true}
 use mathlib.Core.Option.{Option, none, some}
 use mathlib.Core.List.{List, [], _∷_, _++_}
 use Prim.Native.Nat.{ℕ, zero, suc, _-_, _≤_, _<_}
 use native.Mathlib.Omega.{arith}
-use lib.Dec.{eqb, leb, ltb}
-use lib.ListN.{length, take, drop, getD, replicate, length-drop, length-append, length-replicate, take-append-drop}
+use lib.Dec.{eqb, leb}
+use lib.ListN.{length, take, drop, getD, replicate, length-drop, length-append, length-replicate}
 use lib.Seq.{length-take-le, take-at, drop-at}
-use borrow.Author.Tests.{eqb-true, eq-eqb, leb-true, le-leb, ltb-true, not-true, not-false}
+use borrow.Author.Tests.{eqb-true, eq-eqb, leb-true, le-leb, not-false}
 use Rattle.texts.specs.Bytes.{sameBytes, allOf, found, orZeros}
-use Rattle.texts.specs.Layout.{Layout}
-use Rattle.texts.specs.Leaf.{digit}
 use Rattle.texts.specs.Bounds.{codePlaces, mostShops}
-use Rattle.texts.specs.Code.{noCode, code, isCode, sameCode, spelled}
+use Rattle.texts.specs.Code.{code, isCode, sameCode, spelled}
 use Rattle.texts.specs.Answers.{Meaning, answerOf}
-use Rattle.texts.specs.Register.{noListed, noRegister, zeroListed, shopsLine, shopLine, shopLines, ownLine, registerLayout, registerIn, place, among, twins, shopsOf, position, listed, registerRows, registerAnswer, registerTextAnswer, registerRead}
+use Rattle.texts.specs.Register.{noListed, noRegister, zeroListed, shopsLine, shopLine, shopLines, ownLine, registerLayout, registerIn, place, twins, shopsOf, listed, registerRows, registerAnswer, registerTextAnswer, registerRead}
 use Rattle.texts.specs.Slip.{noDep, zeroDep, payerLine, slipNumberLine, payeeLine, amountLine, depsLine, depLine, slipLayout, depsOf}
 use Rattle.texts.specs.declared.code.Code.{Code}
 use Rattle.texts.specs.declared.register.Listed.{Listed}

@@ -1,16 +1,16 @@
 -- "Register, at most 358 bytes", "Slip, at most 366 bytes".
-use mathlib.Core.Path.{_≡_, refl, sym, ap, _∙_, subst}
-use mathlib.Core.Bool.{Bool, true, false, _&&_}
-use mathlib.Core.List.{List, [], _∷_, _++_}
-use Prim.Native.Nat.{ℕ, zero, suc, _+_, _*_, _≤_, _<_}
+use mathlib.Core.Path.{_≡_, refl, subst}
+use mathlib.Core.Bool.{Bool, true}
+use mathlib.Core.List.{List, [], _∷_}
+use Prim.Native.Nat.{ℕ, _+_, _*_, _≤_}
 use native.Mathlib.Omega.{arith}
 use native.Mathlib.Nat.{mul-le-mul-right, le-trans}
 use lib.ListN.{length, take, length-append, length-take}
-use lib.Dec.{eqb, leb}
-use borrow.Author.Tests.{eqb-true, leb-true}
+use lib.Dec.{eqb}
+use borrow.Author.Tests.{eqb-true}
 use Rattle.texts.specs.Bounds.{mostShops, mostDeps, most, registerRoom, slipRoom}
 use Rattle.texts.specs.Bytes.{bytes, allOf}
-use Rattle.texts.specs.Layout.{Layout, word, _⟫_, _then_, of, key, shut, joined, group}
+use Rattle.texts.specs.Layout.{Layout, _⟫_, _then_, key, shut, joined, group}
 use Rattle.texts.specs.Leaf.{number}
 use Rattle.texts.specs.Code.{code}
 use Rattle.texts.specs.Lines.{closed, six, codeLine, numberLine, pairLine}

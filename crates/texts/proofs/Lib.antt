@@ -18,3 +18,4 @@ pub mod Values
 pub mod Places
 pub mod Table
 pub mod WritingTexts
+pub mod Promises

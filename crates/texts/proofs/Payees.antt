@@ -3,14 +3,14 @@ use mathlib.Core.Path.{_≡_, refl, sym, ap, ap₂, _∙_}
 use mathlib.Core.Bool.{Bool, true, false, not, _&&_, and-false, false≢true}
 use mathlib.Core.Option.{Option, none, some}
 use mathlib.Core.List.{List, [], _∷_, _++_, append-assoc}
-use Prim.Native.Nat.{ℕ, zero, suc, _+_, _-_, _*_, _≤_, _<_}
+use Prim.Native.Nat.{ℕ, suc, _+_, _-_, _*_, _≤_, _<_}
 use native.Mathlib.Omega.{arith}
 use lib.ListN.{length, take, drop, getD, length-append, length-take}
 use lib.Seq.{take-at, drop-append-seam, take-take, length-take-le, split-at}
 use lib.Dec.{eqb}
 use borrow.Author.Tests.{eqb-true, eq-eqb, ne-eqb, ltb-true}
 use Rattle.texts.specs.Bytes.{bytes, found, orZeros}
-use Rattle.texts.specs.Layout.{Layout, joined}
+use Rattle.texts.specs.Layout.{joined}
 use Rattle.texts.specs.Leaf.{digits}
 use Rattle.texts.specs.Code.{isCode, sameCode, spelled}
 use Rattle.texts.specs.Lines.{six, pairLine}
@@ -28,7 +28,7 @@ use Rattle.texts.proofs.Steps.{both, and, all-used-at}
 use Rattle.texts.proofs.LawsLeaf.{digits-length}
 use Rattle.texts.proofs.LawsGroup.{joined-append}
 use Rattle.texts.proofs.LawsTexts.{register-only, slip-only}
-use Rattle.texts.proofs.Legal.{SlipLegal, slip-legal, register-fits, RegisterLegal, register-legal, Opens, read-legal, place-at, code-held, spelled-length}
+use Rattle.texts.proofs.Legal.{SlipLegal, slip-legal, register-fits, RegisterLegal, register-legal, read-legal, place-at, code-held, spelled-length}
 use Rattle.texts.proofs.Putting.{joined-more}
 use Rattle.texts.proofs.Reading.{none-if}
 

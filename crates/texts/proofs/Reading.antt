@@ -1,21 +1,20 @@
 -- Reading with a cursor: what the loops found, and what lines put together answer, as `Reads` of a layout.
 use mathlib.Core.Path.{_≡_, refl, sym, ap, ap₂, _∙_, subst}
 use mathlib.Core.Bool.{Bool, true, false, _&&_, false≢true}
-use mathlib.Core.Logic.{_⊎_, inl, inr}
-use mathlib.Core.Option.{Option, none, some, Option·some-injective}
-use mathlib.Core.List.{List, [], _∷_, _++_, append-assoc, append-nil}
-use Prim.Native.Nat.{ℕ, zero, suc, _+_, _-_, _*_, _^_, _≤_, _<_}
+use mathlib.Core.Option.{Option, none, some}
+use mathlib.Core.List.{List, [], _∷_, _++_}
+use Prim.Native.Nat.{ℕ, zero, suc, _+_, _-_, _≤_, _<_}
 use native.Mathlib.Omega.{arith}
 use native.Mathlib.Numerals.{add-one}
 use native.Mathlib.Nat.{add-assoc}
 use lib.Dec.{eqb, leb}
 use lib.ListN.{length, take, drop, getD, set, replicate, length-append, length-drop, length-replicate, length-set, take-append-drop, drop-of-length-le, List·getD-append}
 use lib.Seq.{take-all, take-suc-set, drop-drop, drop-cons, drop-set-lt, length-take-le, take-length}
-use borrow.Author.Tests.{eqb-true, eqb-false, eq-eqb, leb-true, leb-false, le-leb}
+use borrow.Author.Tests.{eqb-true, eqb-false, leb-true, le-leb}
 use Rattle.texts.specs.Bounds.{codePlaces}
 use Rattle.texts.specs.Bytes.{allOf, _>>=_, given}
 use Rattle.texts.specs.Layout.{Layout, past, word, _⟫_, _then_, of, key, shut, joined, several, group, ended, whole}
-use Rattle.texts.specs.Leaf.{digit, numeral, number, run, kept}
+use Rattle.texts.specs.Leaf.{numeral, number}
 use Rattle.texts.specs.Code.{code}
 use Rattle.texts.specs.Inside.{Reads, Common, Counted, Held}
 use Rattle.texts.specs.declared.code.Code.{Code}

@@ -3,12 +3,10 @@ use mathlib.Core.Path.{_≡_, refl, sym, ap, _∙_}
 use mathlib.Core.Bool.{Bool, true, false, not, _&&_}
 use mathlib.Core.Option.{Option, none, some}
 use mathlib.Core.List.{List, [], _∷_}
-use Prim.Native.Nat.{ℕ, zero, suc, _<_}
-use native.Mathlib.Omega.{arith}
+use Prim.Native.Nat.{ℕ, zero, suc}
 use lib.Dec.{eqb}
 use lib.ListN.{length}
 use Rattle.texts.specs.Bytes.{found, orZeros}
-use Rattle.texts.specs.Layout.{Layout, whole}
 use Rattle.texts.specs.Answers.{first, answerOf, form}
 use Rattle.texts.specs.Register.{noRegister, shopsLine, shopLines, ownLine, registerParts, partsRegister, registerLayout, registerIn, ownRows, registerRows, registerTextAnswer, registerRead}
 use Rattle.texts.specs.Slip.{noSlip, payerLine, slipNumberLine, payeeLine, amountLine, depsLine, depLines, slipParts, partsSlip, slipLayout, slipIn, slipRead}
@@ -38,7 +36,7 @@ slip-lines P Q R S T U = reads-of slipParts partsSlip (reads-both P (reads-both 
 
 -- ---- the slip's answer
 
-slip-answer : (text : List ℕ) (o : Option Slip) → slipIn text ≡ o → _≡_ {A = SlipRead} (record { answer = answerOf ((form, not (found o)) ∷ []); slip = orZeros noSlip o }) (slipRead text)
+pub slip-answer : (text : List ℕ) (o : Option Slip) → slipIn text ≡ o → _≡_ {A = SlipRead} (record { answer = answerOf ((form, not (found o)) ∷ []); slip = orZeros noSlip o }) (slipRead text)
 unfolding slipRead
 slip-answer text o e = ap (λ o. record { answer = answerOf ((form, not (found o)) ∷ []); slip = orZeros noSlip o }) (sym e)
 
@@ -57,7 +55,7 @@ module _ {s : List ℕ} {c e : Cursor} {v : Slip} (P : Reads slipLayout s c v e)
 abbrev kept-if : ℕ → Register → Register
 kept-if answer r = elim answer [ zero ↦ r | suc n ↦ noRegister ]
 
-register-answer : (text : List ℕ) (o : Option Register) → registerIn text ≡ o
+pub register-answer : (text : List ℕ) (o : Option Register) → registerIn text ≡ o
     → _≡_ {A = RegisterRead} (record { answer = answerOf (registerRows (found o) (orZeros noRegister o)); register = kept-if (answerOf (registerRows (found o) (orZeros noRegister o))) (orZeros noRegister o) })
     (registerRead text)
 unfolding registerRead registerTextAnswer

@@ -1,26 +1,25 @@
 -- The loops over single bytes: a word, a number digit by digit, a code digit by digit.
-use mathlib.Core.Path.{_≡_, refl, sym, ap, ap₂, _∙_, subst}
-use mathlib.Core.Bool.{Bool, true, false, _&&_, false≢true}
+use mathlib.Core.Path.{_≡_, refl, sym, ap, ap₂, _∙_}
+use mathlib.Core.Bool.{true, false, _&&_, false≢true}
 use mathlib.Core.Logic.{_⊎_, inl, inr}
 use mathlib.Core.Option.{Option, none, some}
 use mathlib.Core.List.{List, [], _∷_, _++_, append-assoc, append-nil}
-use Prim.Native.Nat.{ℕ, zero, suc, _+_, _-_, _*_, _/_, _%_, _^_, _≤_, _<_}
+use Prim.Native.Nat.{ℕ, zero, suc, _+_, _-_, _*_, _/_, _^_, _≤_, _<_}
 use native.Mathlib.Omega.{arith}
 use native.Mathlib.Numerals.{add-one}
-use native.Mathlib.Nat.{pow-suc, pow-le-pow-right, lt-of-lt-of-le, le-trans, le-of-eq, zero-mul, mul-assoc, mul-le-mul-right, mul-lt-mul-of-pos-right, one-le-pow, add-suc}
+use native.Mathlib.Nat.{pow-suc, pow-le-pow-right, lt-of-lt-of-le, le-trans, le-of-eq, zero-mul, mul-assoc, mul-lt-mul-of-pos-right, one-le-pow, add-suc}
 use lib.Pow.{pow-add}
-use lib.Dec.{eqb, leb, lit<}
-use lib.ListN.{length, take, drop, getD, set, replicate, length-append, length-drop, length-replicate, drop-of-length-le}
+use lib.Dec.{leb, lit<}
+use lib.ListN.{length, take, drop, getD, set, replicate, length-drop, drop-of-length-le}
 use lib.Seq.{take-suc, drop-cons, length-take-le, getD-drop}
 use borrow.Author.Tests.{leb-true}
 use borrow.Author.Needs.{fits-under}
 use mir.Syntax.{w32}
 use mir.Val.{Fits}
 use Rattle.texts.specs.Bounds.{codePlaces}
-use Rattle.texts.specs.Bytes.{_>>=_, given}
+use Rattle.texts.specs.Bytes.{given}
 use Rattle.texts.specs.Leaf.{digit, oneMore, numeral, number, run}
 use Rattle.texts.specs.Inside.{Counted, Held}
-use Rattle.texts.specs.declared.code.Code.{Code}
 use Rattle.texts.proofs.Steps.{both, bind-at, bind-some, bind-none, given-at, given-some}
 use Rattle.texts.proofs.LawsLeaf.{digit-of, more-only}
 use Rattle.texts.proofs.Reading.{none-if}

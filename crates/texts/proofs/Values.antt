@@ -8,20 +8,20 @@ use native.Mathlib.Numerals.{add-one}
 use lib.ListN.{length, take, drop, getD, set, replicate, drop-of-length-le, length-map}
 use lib.Seq.{drop-cons, take-nil, drop-nil, take-suc, take-length, drop-length, length-take-le, set-at, append-snoc}
 use lib.Dec.{leb, ltb, eqb, eqb·suc-zero, eqb·zero-suc}
-use borrow.Author.Tests.{lt-ltb, le-ltb, le-leb, lt-leb, eq-eqb, ne-eqb, leb-true, not-true, not-false}
+use borrow.Author.Tests.{lt-ltb, le-ltb, le-leb, lt-leb, eq-eqb, ne-eqb, not-true, not-false}
 use Rattle.texts.specs.Bytes.{sameBytes, allOf}
 use Rattle.texts.specs.Leaf.{digit}
 use Rattle.texts.specs.Code.{noCode, isCode, sameCode, codeOf}
 use Rattle.texts.specs.Lines.{pairLine}
-use Rattle.texts.specs.Register.{zeroListed, shopsLine, shopLine, shopLines, ownLine, registerLayout}
+use Rattle.texts.specs.Register.{zeroListed, shopsLine, shopLine, shopLines, registerLayout}
 use Rattle.texts.specs.Slip.{zeroDep, depLine, slipLayout}
 use Rattle.texts.specs.Inside.{passes, zeroPair}
 use Rattle.texts.specs.Answers.{Meaning, Row, numberOf, first, answerOf}
 use Rattle.texts.specs.declared.code.Code.{Code}
 use Rattle.texts.specs.declared.register.Register.{Register}
 use Rattle.texts.specs.declared.slip.Slip.{Slip}
-use Rattle.texts.proofs.Steps.{both, and}
-use Rattle.texts.proofs.Legal.{SlipLegal, slip-legal}
+use Rattle.texts.proofs.Steps.{and}
+use Rattle.texts.proofs.Legal.{SlipLegal, slip-legal, RegisterFits, register-fits}
 
 -- ---- tests
 
@@ -299,21 +299,9 @@ slip-rest s places payer payee number amount count t e =
     (skip _ _ t (within 0 (s .count) 15 true (omega arith) count)
     (skip _ _ t (eq-eqb (length (s .deps)) 15 places) e)))))
 
--- what a register that has a text has besides its shops
-pub record RegisterFits (r : Register) : Type 0 where
-  pub some : 1 ≤ r .count
-  pub most : r .count ≤ 16
-  pub own : isCode (r .own) ≡ true
-
--- a register that some such part keeps from having one
+-- a register that some part keeps from having a text
 pub register-not : (r : Register) → (RegisterFits r → ⊥) → false ≡ registerLayout .legal r
-unfolding registerLayout
-register-not r h = fails (registerLayout .legal r) (λ e.
-    let a = both (shopsLine .legal (r .count) && shopLines (r .count) .legal (r .shops)) (ownLine .legal (r .own)) e in
-    let b = both (shopsLine .legal (r .count)) (shopLines (r .count) .legal (r .shops)) (a .0) in
-    let c = both (leb 1 (r .count) && leb (r .count) 16) true (b .0) in
-    let d = both (leb 1 (r .count)) (leb (r .count) 16) (c .0) in
-    h (record { some = leb-true 1 (r .count) (d .0); most = leb-true (r .count) 16 (d .1); own = a .1 }))
+register-not r h = fails (registerLayout .legal r) (λ e. h (register-fits r e))
 
 -- the shops decide, where the rest of the register is legal
 pub register-rest : (r : Register) → length (r .shops) ≡ 16 → 1 ≤ r .count → r .count ≤ 16 → isCode (r .own) ≡ true

@@ -1,17 +1,17 @@
 -- Writing a register and a slip to a lent buffer: what is answered, and what the buffer then holds.
-use mathlib.Core.Path.{_≡_, refl, sym, ap, ap₂, _∙_}
+use mathlib.Core.Path.{_≡_, refl, sym, ap, _∙_}
 use mathlib.Core.Bool.{Bool, true, false, not}
 use mathlib.Core.List.{List, [], _∷_, _++_}
-use Prim.Native.Nat.{ℕ, zero, suc, _+_, _≤_, _<_}
+use Prim.Native.Nat.{ℕ, zero, suc, _≤_, _<_}
 use native.Mathlib.Omega.{arith}
 use native.Mathlib.Nat.{zero-add}
 use lib.Dec.{ltb}
-use lib.ListN.{length, take, drop}
+use lib.ListN.{length, drop}
 use borrow.Author.Tests.{lt-ltb, le-ltb, not-false}
 use Rattle.texts.specs.Bounds.{registerRoom, slipRoom}
-use Rattle.texts.specs.Answers.{Meaning, Row, first, answerOf, form, room}
+use Rattle.texts.specs.Answers.{Row, first, answerOf, form, room}
 use Rattle.texts.specs.Written.{answered, buffered}
-use Rattle.texts.specs.Register.{registerLayout, registerRows, registerAnswer, registerWriteAnswer, registerWritten, registerBuffer}
+use Rattle.texts.specs.Register.{registerLayout, registerAnswer, registerWriteAnswer, registerWritten, registerBuffer}
 use Rattle.texts.specs.Slip.{slipLayout, slipWriteAnswer, slipWritten, slipBuffer}
 use Rattle.texts.specs.Inside.{Room, Wrote}
 use Rattle.texts.specs.declared.pen.Written.{Written}
@@ -51,7 +51,7 @@ module _ (r : Register) (d : List ℕ) where
   unfolding registerWriteAnswer
   register-small h = refused _ (registerLayout .text r) d 11 (room-first registerRoom d _ h) (λ e. omega arith)
 
-  answer-there : registerRoom ≤ length d → registerWriteAnswer r d ≡ registerAnswer r
+  pub answer-there : registerRoom ≤ length d → registerWriteAnswer r d ≡ registerAnswer r
   unfolding registerWriteAnswer registerAnswer
   answer-there h = room-there registerRoom d _ h
 
@@ -80,7 +80,7 @@ module _ (s : Slip) (d : List ℕ) where
   unfolding slipWriteAnswer
   slip-small h = refused _ (slipLayout .text s) d 11 (room-first slipRoom d _ h) (λ e. omega arith)
 
-  form-there : (t : Bool) → slipRoom ≤ length d → t ≡ slipLayout .legal s → slipWriteAnswer s d ≡ answerOf ((form, not t) ∷ [])
+  pub form-there : (t : Bool) → slipRoom ≤ length d → t ≡ slipLayout .legal s → slipWriteAnswer s d ≡ answerOf ((form, not t) ∷ [])
   unfolding slipWriteAnswer
   form-there t h e = room-there slipRoom d _ h ∙ ap (λ b. answerOf ((form, not b) ∷ [])) (sym e)
 

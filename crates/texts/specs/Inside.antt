@@ -3,14 +3,13 @@ use mathlib.Core.Path.{_≡_}
 use mathlib.Core.Bool.{Bool, true, false, _&&_}
 use mathlib.Core.Option.{none, some}
 use mathlib.Core.List.{List, _++_}
-use Prim.Native.Nat.{ℕ, _+_, _-_, _*_, _^_, _≤_, _<_}
+use Prim.Native.Nat.{ℕ, _+_, _-_, _≤_, _<_}
 use lib.Dec.{eqb}
 use lib.ListN.{length, take, drop, getD, replicate}
 use Rattle.texts.specs.Bounds.{codePlaces}
 use Rattle.texts.specs.Layout.{Layout}
 use Rattle.texts.specs.Leaf.{numeral, number, run}
 use Rattle.texts.specs.Code.{noCode, sameCode}
-use Rattle.texts.specs.Lines.{pairLine}
 use Rattle.texts.specs.declared.code.Code.{Code}
 use Rattle.texts.specs.declared.cursor.Cursor.{Cursor}
 

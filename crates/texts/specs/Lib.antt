@@ -11,3 +11,4 @@ pub mod Register
 pub mod Slip
 pub mod Payee
 pub mod Inside
+pub mod Promises

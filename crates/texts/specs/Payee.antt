@@ -1,7 +1,7 @@
 -- Showing a payee: "given a register text and a slip text, the answer is the exact bytes of the payee's code".
 use mathlib.Core.Bool.{Bool, true, false, _&&_}
-use mathlib.Core.Option.{Option, none, some}
-use mathlib.Core.List.{List, [], _∷_, _++_}
+use mathlib.Core.Option.{none, some}
+use mathlib.Core.List.{List, _++_}
 use Prim.Native.Nat.{ℕ, _+_}
 use lib.ListN.{length, take, drop}
 use lib.Dec.{eqb}

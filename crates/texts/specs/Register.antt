@@ -1,6 +1,6 @@
 -- The register's text: "`shops=` two digits 01 to 16; that many `shop=CODE:OPENING` lines, opening six digits; `own=CODE`."
 use mathlib.Core.Bool.{Bool, true, false, not, _&&_, _||_}
-use mathlib.Core.Option.{Option, none, some}
+use mathlib.Core.Option.{Option}
 use mathlib.Core.List.{List, [], _∷_}
 use Prim.Native.Nat.{ℕ, zero, suc}
 use lib.ListN.{length, take, replicate}

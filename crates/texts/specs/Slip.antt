@@ -1,7 +1,7 @@
 -- The slip's text: "`payer=CODE`, `number=` six digits, `payee=CODE`, `amount=` six digits, `deps=` two digits 00 to 15, then that many
 -- `dep=CODE:NUMBER` lines, number six digits." The order of dependencies is no matter of form: "a breach is answer 5, not 1".
-use mathlib.Core.Bool.{Bool, true, false, not, _&&_}
-use mathlib.Core.Option.{Option, none, some}
+use mathlib.Core.Bool.{Bool, not, _&&_}
+use mathlib.Core.Option.{Option}
 use mathlib.Core.List.{List, [], _∷_}
 use Prim.Native.Nat.{ℕ}
 use lib.ListN.{length, take, replicate}

@@ -1,7 +1,6 @@
 // A shop's code: one to eight decimal digits. It is never a number.
 use crate::bounds::CODE_DIGITS;
 ghost use mathlib.Core.Path.{_≡_};
-ghost use mathlib.Core.Bool.{_&&_};
 ghost use lib.Dec.{eqb};
 ghost use Rattle.texts.specs.Leaf.{digit};
 ghost use Rattle.texts.specs.Code.{noCode, isCode, sameCode, codeOf};

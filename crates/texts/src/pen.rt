@@ -3,7 +3,7 @@ use crate::code::Code;
 ghost use mathlib.Core.Path.{_≡_};
 ghost use mathlib.Core.Bool.{true};
 ghost use mathlib.Core.List.{_++_};
-ghost use Prim.Native.Nat.{_+_, _≤_};
+ghost use Prim.Native.Nat.{_+_};
 ghost use Rattle.texts.specs.Bytes.{bytes};
 ghost use Rattle.texts.specs.Leaf.{digits};
 ghost use Rattle.texts.specs.Layout.{key};

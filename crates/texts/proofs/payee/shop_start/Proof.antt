@@ -1,6 +1,6 @@
 -- The lines of the shops passed are counted, and the key of the line that is wanted.
-use Prim.Native.Nat.{_-_, _≤_}
 use mathlib.Core.List.{[]}
+use Prim.Native.Nat.{_-_, _≤_}
 use native.Mathlib.Omega.{arith}
 use borrow.Author.Needs.{needs}
 use Rattle.texts.specs.declared.register.Listed.{Listed}

@@ -1,13 +1,9 @@
 -- The lines read so far stand in their places, zeros after them.
 use Prim.Native.Nat.{_-_, _≤_}
-use mathlib.Core.Path.{sym, subst}
 use native.Mathlib.Omega.{arith}
-use lib.ListN.{replicate}
-use denote.Ref.{now}
 use borrow.Author.Needs.{needs}
 use Rattle.texts.specs.Bounds.{mostDeps}
 use Rattle.texts.specs.Slip.{noDep, depParts, partsDep, depLine}
-use Rattle.texts.specs.declared.slip.Dep.{Dep}
 use Rattle.texts.proofs.Reading.{Grouped, grouped-none, grouped-more, grouped-done, reads-of}
 use borrow.Author.Needs.{needs}
 use Rattle.texts.proofs.slip.deps_at.Statement.{statement}

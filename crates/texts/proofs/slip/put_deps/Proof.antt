@@ -1,6 +1,6 @@
 -- The lines of the dependencies are written one after the other: after i turns those of the first i stand in the buffer.
-use borrow.Author.Needs.{needs}
 use mathlib.Core.List.{[]}
+use borrow.Author.Needs.{needs}
 use Prim.Native.Nat.{_-_}
 use native.Mathlib.Omega.{arith}
 use Rattle.texts.specs.Slip.{depLine}

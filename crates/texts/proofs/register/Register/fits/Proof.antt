@@ -24,7 +24,7 @@ returns-3 c =
     register-rest (c .before .before .before .before .before .before .before .args .self) (search (length-mapped, needs)) (search needs) (search needs) (sym (own .before .fits2 .ensures) ∙ own .if3 .taken) _ (c .shops-fit .ensures)
 
 returns-4 : tie.Need-returns-4
-returns-4 c = register-not _ (λ ok. clash _ _ (c .before .fits2 .ensures) (c .if3 .left) (ok .own))
+returns-4 c = register-not _ (λ ok. clash _ _ (c .before .fits2 .ensures) (c .if3 .left) (ok .ownCode))
 
 pub fits-spec : {M : Type 1} → statement M
 fits-spec =

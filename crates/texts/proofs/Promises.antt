@@ -1,0 +1,93 @@
+-- The promises on reading and writing together, from the two laws of a layout.
+use mathlib.Core.Path.{_≡_, refl, sym, ap, _∙_}
+use mathlib.Core.Bool.{true}
+use mathlib.Core.Option.{some}
+use mathlib.Core.List.{List}
+use Prim.Native.Nat.{ℕ, zero, suc}
+use native.Mathlib.Omega.{arith}
+use lib.ListN.{length, take, drop}
+use lib.Seq.{take-at}
+use borrow.Author.Tests.{not-false}
+use Rattle.texts.specs.Layout.{Layout}
+use Rattle.texts.specs.Answers.{first, answerOf, form, room}
+use Rattle.texts.specs.Written.{over, answered, buffered}
+use Rattle.texts.specs.Register.{noRegister, registerLayout, ownRows, registerAnswer, registerRead, registerWriteAnswer}
+use Rattle.texts.specs.Slip.{slipLayout, slipRead, slipWriteAnswer}
+use Rattle.texts.specs.Lawful.{Lawful}
+use Rattle.texts.specs.Promises.{OneToOne, RegistersOneToOne, SlipsOneToOne, RegisterReadsBack, SlipReadsBack, RegisterWritesBack, SlipWritesBack, RegisterAtMost, SlipAtMost, PayeeExact}
+use Rattle.texts.specs.declared.register.Register.{Register}
+use Rattle.texts.specs.declared.slip.Slip.{Slip}
+use Rattle.texts.proofs.Firsts.{first-zero}
+use Rattle.texts.proofs.LawsWhole.{whole-back, whole-only, one-text, one-value}
+use Rattle.texts.proofs.LawsTexts.{register-lawful, slip-lawful, register-back, register-only, slip-back, slip-only}
+use Rattle.texts.proofs.Legal.{read-legal}
+use Rattle.texts.proofs.Lengths.{register-most, slip-most}
+use Rattle.texts.proofs.Payees.{slip-carried, payee-bytes}
+use Rattle.texts.proofs.ReadingTexts.{register-answer, slip-answer}
+use Rattle.texts.proofs.WritingTexts.{answer-there, form-there}
+
+one-to-one : {A : Type 0} (L : Layout A) → Lawful L → OneToOne L
+one-to-one L P = record { back = whole-back L P; same = whole-only L P; oneText = one-text L P; oneValue = one-value L P }
+
+pub registers-one-to-one : RegistersOneToOne
+registers-one-to-one = one-to-one registerLayout register-lawful
+
+pub slips-one-to-one : SlipsOneToOne
+slips-one-to-one = one-to-one slipLayout slip-lawful
+
+-- ---- the calls
+
+-- after answer 0 the text is what stands at the front of the buffer
+front : (answer : ℕ) (text d : List ℕ) → answer ≡ 0 → take (answered answer text .count) (buffered answer text d) ≡ text
+unfolding answered buffered
+front answer text d e =
+    ap (λ a. take (answered a text .count) (buffered a text d)) e ∙ take-at text (drop (length text) d) (length text) refl
+
+-- after answer 0 the value fits its layout
+slip-wrote : (s : Slip) (d : List ℕ) → slipWriteAnswer s d ≡ 0 → slipLayout .legal s ≡ true
+unfolding slipWriteAnswer
+slip-wrote s d e = not-false _ (first-zero form _ _ (omega arith) (first-zero room _ _ (omega arith) e .1) .0)
+
+pub slip-reads-back : SlipReadsBack
+unfolding first
+slip-reads-back s d e =
+    ap slipRead (front (slipWriteAnswer s d) (slipLayout .text s) d e) ∙ sym (slip-answer (slipLayout .text s) (some s) (slip-back s (slip-wrote s d e)))
+
+register-wrote : (r : Register) (d : List ℕ) → registerWriteAnswer r d ≡ 0 → (registerLayout .legal r ≡ true) × (answerOf (ownRows r) ≡ 0)
+unfolding registerWriteAnswer
+register-wrote r d e = let one = first-zero form _ _ (omega arith) (first-zero room _ _ (omega arith) e .1) in (not-false _ (one .0), one .1)
+
+pub register-reads-back : RegisterReadsBack
+unfolding first
+register-reads-back r d e =
+    let w = register-wrote r d e in
+    ap registerRead (front (registerWriteAnswer r d) (registerLayout .text r) d e)
+    ∙ sym (register-answer (registerLayout .text r) (some r) (register-back r (w .0)))
+    ∙ ap (λ n. record { answer = n; register = elim n [ zero ↦ r | suc m ↦ noRegister ] }) (w .1)
+
+pub slip-writes-back : SlipWritesBack
+unfolding buffered first
+slip-writes-back text d e h =
+    let carried = slip-carried text (slipRead text) refl e in
+    let o = slip-only text (slipRead text .slip) carried in
+    ap (λ a. buffered a (slipLayout .text (slipRead text .slip)) d) (form-there (slipRead text .slip) d true h (sym (o .0))) ∙ ap (λ t. over t d) (sym (o .1))
+
+pub register-writes-back : RegisterWritesBack
+unfolding buffered
+register-writes-back text d e h =
+    let O = read-legal text e in
+    let r = registerRead text .register in
+    let zero-answer = answer-there r d h ∙ ap registerAnswer (O .given) ∙ O .legal in
+    ap (λ a. buffered a (registerLayout .text r) d) zero-answer
+    ∙ ap (λ t. over t d) (ap (registerLayout .text) (O .given) ∙ sym (register-only text (O .register) (O .carried) .1))
+
+-- ---- lengths, and the payee
+
+pub register-at-most : RegisterAtMost
+register-at-most = register-most
+
+pub slip-at-most : SlipAtMost
+slip-at-most = slip-most
+
+pub payee-exact : PayeeExact
+payee-exact = payee-bytes
