@@ -1,30 +1,33 @@
 -- The promises on reading and writing together, from the two laws of a layout.
 use mathlib.Core.Path.{_≡_, refl, sym, ap, _∙_}
-use mathlib.Core.Bool.{true}
-use mathlib.Core.Option.{some}
+use mathlib.Core.Bool.{true, false, _&&_}
+use mathlib.Core.Option.{Option, none, some}
 use mathlib.Core.List.{List}
 use Prim.Native.Nat.{ℕ, zero, suc}
 use native.Mathlib.Omega.{arith}
 use lib.ListN.{length, take, drop}
 use lib.Seq.{take-at}
-use borrow.Author.Tests.{not-false}
+use borrow.Author.Tests.{eq-eqb, ne-eqb, not-false}
 use Rattle.texts.specs.Layout.{Layout}
 use Rattle.texts.specs.Answers.{first, answerOf, form, room}
 use Rattle.texts.specs.Written.{over, answered, buffered}
-use Rattle.texts.specs.Register.{noRegister, registerLayout, ownRows, registerAnswer, registerRead, registerWriteAnswer}
-use Rattle.texts.specs.Slip.{slipLayout, slipRead, slipWriteAnswer}
+use Rattle.texts.specs.Register.{noRegister, registerLayout, listed, ownRows, registerAnswer, registerRead, registerWriteAnswer}
+use Rattle.texts.specs.Slip.{slipLayout, slipIn, slipRead, slipWriteAnswer}
 use Rattle.texts.specs.Lawful.{Lawful}
-use Rattle.texts.specs.Promises.{OneToOne, RegistersOneToOne, SlipsOneToOne, RegisterReadsBack, SlipReadsBack, RegisterWritesBack, SlipWritesBack, RegisterAtMost, SlipAtMost, PayeeExact}
+use Rattle.texts.specs.Payee.{Part, payeePart}
+use Rattle.texts.specs.Promises.{OneToOne, RegistersOneToOne, SlipsOneToOne, RegisterReadsBack, SlipReadsBack, RegisterWritesBack, SlipWritesBack, RegisterRefusalKeeps, SlipRefusalKeeps, RegisterAtMost, SlipAtMost, PayeeExact, ListedInRegister, RefusedInSlip}
+use Rattle.texts.specs.declared.pen.Written.{Written}
 use Rattle.texts.specs.declared.register.Register.{Register}
 use Rattle.texts.specs.declared.slip.Slip.{Slip}
+use Rattle.texts.proofs.Steps.{and}
 use Rattle.texts.proofs.Firsts.{first-zero}
 use Rattle.texts.proofs.LawsWhole.{whole-back, whole-only, one-text, one-value}
 use Rattle.texts.proofs.LawsTexts.{register-lawful, slip-lawful, register-back, register-only, slip-back, slip-only}
 use Rattle.texts.proofs.Legal.{read-legal}
 use Rattle.texts.proofs.Lengths.{register-most, slip-most}
-use Rattle.texts.proofs.Payees.{slip-carried, payee-bytes}
+use Rattle.texts.proofs.Payees.{slip-carried, register-part, slip-part, no-payee, payee-bytes}
 use Rattle.texts.proofs.ReadingTexts.{register-answer, slip-answer}
-use Rattle.texts.proofs.WritingTexts.{answer-there, form-there}
+use Rattle.texts.proofs.WritingTexts.{refused, answer-there, form-there}
 
 one-to-one : {A : Type 0} (L : Layout A) → Lawful L → OneToOne L
 one-to-one L P = record { back = whole-back L P; same = whole-only L P; oneText = one-text L P; oneValue = one-value L P }
@@ -91,3 +94,28 @@ slip-at-most = slip-most
 
 pub payee-exact : PayeeExact
 payee-exact = payee-bytes
+
+pub listed-in-register : ListedInRegister
+listed-in-register register slip s e h l = ap (λ (p : Part). p .ofRegister) (register-part register slip s e (and _ _ (eq-eqb (registerRead register .answer) 0 h) l))
+
+pub refused-in-slip : RefusedInSlip
+refused-in-slip register slip h = go (slipIn slip) refl
+  where
+    go : (o : Option Slip) → slipIn slip ≡ o → payeePart register slip .ofRegister ≡ false
+    go none e = ap (λ (p : Part). p .ofRegister) (no-payee register slip e)
+    go (some s) e =
+        ap (λ (p : Part). p .ofRegister)
+        (slip-part register slip s e (ap (λ b. b && listed (registerRead register .register) (s .payee)) (ne-eqb (registerRead register .answer) 0 h)))
+
+-- ---- a refused write
+
+kept : (answer : ℕ) (text d : List ℕ) → (answer ≡ 0 → ⊥) → (answered answer text .count ≡ 0) × (buffered answer text d ≡ d)
+kept answer text d h =
+    let p = refused answer text d answer refl h in
+    (ap (λ (w : Written). w .count) (sym (p .0)), sym (p .1))
+
+pub register-refusal-keeps : RegisterRefusalKeeps
+register-refusal-keeps r d h = kept (registerWriteAnswer r d) (registerLayout .text r) d h
+
+pub slip-refusal-keeps : SlipRefusalKeeps
+slip-refusal-keeps s d h = kept (slipWriteAnswer s d) (slipLayout .text s) d h

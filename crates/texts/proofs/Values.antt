@@ -31,7 +31,7 @@ fails true h = absurd (h refl)
 fails false h = refl
 
 -- a test before another that passes
-skip : (a b t : Bool) → a ≡ true → t ≡ b → t ≡ a && b
+pub skip : (a b t : Bool) → a ≡ true → t ≡ b → t ≡ a && b
 skip a b t h e = e ∙ sym (ap (λ x. x && b) h)
 
 -- a test that fails and passes

@@ -1,6 +1,6 @@
 -- What is promised of reading and writing together, beside each function's own statement. The proofs are in proofs/Promises.
 use mathlib.Core.Path.{_≡_}
-use mathlib.Core.Bool.{true}
+use mathlib.Core.Bool.{true, false}
 use mathlib.Core.Option.{some}
 use mathlib.Core.List.{List}
 use Prim.Native.Nat.{ℕ, _≤_}
@@ -8,7 +8,7 @@ use lib.ListN.{length, take}
 use Rattle.texts.specs.Bounds.{registerRoom, slipRoom}
 use Rattle.texts.specs.Layout.{Layout, whole}
 use Rattle.texts.specs.Written.{over}
-use Rattle.texts.specs.Register.{registerLayout, registerRead, registerWriteAnswer, registerWritten, registerBuffer}
+use Rattle.texts.specs.Register.{registerLayout, listed, registerRead, registerWriteAnswer, registerWritten, registerBuffer}
 use Rattle.texts.specs.Slip.{slipLayout, slipIn, slipRead, slipWriteAnswer, slipWritten, slipBuffer}
 use Rattle.texts.specs.Code.{spelled}
 use Rattle.texts.specs.Payee.{shown, payeePart}
@@ -53,6 +53,16 @@ RegisterWritesBack =
 abbrev pub SlipWritesBack : Type 0
 SlipWritesBack = (text buffer : List ℕ) → slipRead text .answer ≡ 0 → slipRoom ≤ length buffer → slipBuffer (slipRead text .slip) buffer ≡ over text buffer
 
+-- ---- "A refusal returns its number with count 0; lent bytes keep their values."
+
+abbrev pub RegisterRefusalKeeps : Type 0
+RegisterRefusalKeeps =
+    (r : Register) (buffer : List ℕ) → (registerWriteAnswer r buffer ≡ 0 → ⊥) → (registerWritten r buffer .count ≡ 0) × (registerBuffer r buffer ≡ buffer)
+
+abbrev pub SlipRefusalKeeps : Type 0
+SlipRefusalKeeps =
+    (s : Slip) (buffer : List ℕ) → (slipWriteAnswer s buffer ≡ 0 → ⊥) → (slipWritten s buffer .count ≡ 0) × (slipBuffer s buffer ≡ buffer)
+
 -- ---- "Register, at most 358 bytes", "Slip, at most 366 bytes"
 
 abbrev pub RegisterAtMost : Type 0
@@ -65,3 +75,14 @@ SlipAtMost = (s : Slip) → slipLayout .legal s ≡ true → length (slipLayout 
 
 abbrev pub PayeeExact : Type 0
 PayeeExact = (register slip : List ℕ) (s : Slip) → slipIn slip ≡ some s → shown (payeePart register slip) register slip ≡ spelled (s .payee)
+
+-- "as the part of the register text where that shop is listed, otherwise as the part of the slip text"
+abbrev pub ListedInRegister : Type 0
+ListedInRegister =
+    (register slip : List ℕ) (s : Slip) → slipIn slip ≡ some s → registerRead register .answer ≡ 0 → listed (registerRead register .register) (s .payee) ≡ true
+    → payeePart register slip .ofRegister ≡ true
+
+-- "If the register would be refused, it is the slip's part."
+abbrev pub RefusedInSlip : Type 0
+RefusedInSlip =
+    (register slip : List ℕ) → (registerRead register .answer ≡ 0 → ⊥) → payeePart register slip .ofRegister ≡ false
