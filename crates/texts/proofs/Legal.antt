@@ -8,19 +8,19 @@ use native.Mathlib.Omega.{arith}
 use lib.Dec.{eqb, leb}
 use lib.ListN.{length, take, drop, getD, replicate, length-drop, length-append, length-replicate}
 use lib.Seq.{length-take-le, take-at, drop-at}
-use borrow.Author.Tests.{eqb-true, eq-eqb, leb-true, le-leb, not-false}
+use borrow.Author.Tests.{eqb-true, eq-eqb, leb-true, le-leb, not-false, ne-eqb}
 use Rattle.texts.specs.Bytes.{sameBytes, allOf, found, orZeros}
 use Rattle.texts.specs.Bounds.{codePlaces, mostShops}
-use Rattle.texts.specs.Code.{code, isCode, sameCode, spelled}
+use Rattle.texts.specs.Code.{code, isCode, sameCode, spelled, noCode}
 use Rattle.texts.specs.Answers.{Meaning, answerOf}
-use Rattle.texts.specs.Register.{noListed, noRegister, zeroListed, shopsLine, shopLine, shopLines, ownLine, registerLayout, registerIn, place, twins, shopsOf, listed, registerRows, registerAnswer, registerTextAnswer, registerRead}
+use Rattle.texts.specs.Register.{noListed, noRegister, zeroListed, shopsLine, shopLine, shopLines, ownLine, registerLayout, registerIn, place, twins, shopsOf, listed, registerRows, registerAnswer, registerTextAnswer, registerRead, among}
 use Rattle.texts.specs.Slip.{noDep, zeroDep, payerLine, slipNumberLine, payeeLine, amountLine, depsLine, depLine, slipLayout, depsOf}
 use Rattle.texts.specs.declared.code.Code.{Code}
 use Rattle.texts.specs.declared.register.Listed.{Listed}
 use Rattle.texts.specs.declared.register.Register.{Register}
 use Rattle.texts.specs.declared.slip.Dep.{Dep}
 use Rattle.texts.specs.declared.slip.Slip.{Slip}
-use Rattle.texts.proofs.Steps.{both, and, all-zeros, zeros-all, bytes-same}
+use Rattle.texts.proofs.Steps.{both, and, all-zeros, zeros-all, bytes-same, neither}
 use Rattle.texts.proofs.Firsts.{first-zero}
 use Rattle.texts.proofs.LawsTexts.{same-code, zeroListed-is, zeroDep-is, register-only}
 
@@ -195,3 +195,30 @@ place-head s shops c e = rw (e, place)
 pub place-later : (s : Listed) (shops : List Listed) (c : Code) → sameCode (s .code) c ≡ false → place (s ∷ shops) c ≡ suc (place shops c)
 unfolding place
 place-later s shops c e = rw (e, place)
+
+pub place-within : (shops : List Listed) (c : Code) → place shops c ≤ length shops
+unfolding place
+place-within [] c = omega arith
+place-within (s ∷ shops) c = go (sameCode (s .code) c) refl (place-within shops c)
+  where
+    go : (t : Bool) → sameCode (s .code) c ≡ t → place shops c ≤ length shops → place (s ∷ shops) c ≤ suc (length shops)
+    go true e h = rw (e, place) (omega arith)
+    go false e h = rw (e, place) (omega arith)
+
+-- no twins: the first shop's code is not among the others, and there are none among those
+pub single-more : (s : Listed) (shops : List Listed) → twins (s ∷ shops) ≡ false → (among shops (s .code) ≡ false) × (twins shops ≡ false)
+unfolding twins
+single-more s shops e = neither (among shops (s .code)) (twins shops) e
+
+-- a code is not the code of zeros
+pub code-not-zeros : (c : Code) → isCode c ≡ true → sameCode c noCode ≡ false
+unfolding sameCode
+code-not-zeros c e =
+    let m = code-some c e in
+    ap (λ b. b && sameBytes (c .digits) (noCode .digits)) (ne-eqb (c .len) 0 (λ i. omega arith))
+
+pub zeros-not-code : (c : Code) → isCode c ≡ true → sameCode noCode c ≡ false
+unfolding sameCode
+zeros-not-code c e =
+    let m = code-some c e in
+    ap (λ b. b && sameBytes (noCode .digits) (c .digits)) (ne-eqb 0 (c .len) (λ i. omega arith))

@@ -12,10 +12,10 @@ use borrow.Author.Tests.{eqb-true, eq-eqb, ne-eqb, ltb-true}
 use Rattle.texts.specs.Bytes.{bytes, found, orZeros}
 use Rattle.texts.specs.Layout.{joined}
 use Rattle.texts.specs.Leaf.{digits}
-use Rattle.texts.specs.Code.{isCode, sameCode, spelled}
+use Rattle.texts.specs.Code.{isCode, spelled}
 use Rattle.texts.specs.Lines.{six, pairLine}
 use Rattle.texts.specs.Answers.{first, answerOf, form}
-use Rattle.texts.specs.Register.{noListed, shopsLine, shopLine, ownLine, registerLayout, place, shopsOf, position, listed, registerAnswer, registerRead}
+use Rattle.texts.specs.Register.{noListed, shopsLine, shopLine, ownLine, registerLayout, shopsOf, position, listed, registerAnswer, registerRead}
 use Rattle.texts.specs.Slip.{noSlip, payerLine, slipNumberLine, amountLine, depsLine, depLine, slipLayout, slipIn, slipRead}
 use Rattle.texts.specs.Payee.{Part, source, shown, placed, beforeShop, beforePayee, inRegister, startInRegister, payeeOf, payeePart}
 use Rattle.texts.specs.declared.code.Code.{Code}
@@ -28,7 +28,7 @@ use Rattle.texts.proofs.Steps.{both, and, all-used-at}
 use Rattle.texts.proofs.LawsLeaf.{digits-length}
 use Rattle.texts.proofs.LawsGroup.{joined-append}
 use Rattle.texts.proofs.LawsTexts.{register-only, slip-only}
-use Rattle.texts.proofs.Legal.{SlipLegal, slip-legal, register-fits, RegisterLegal, register-legal, read-legal, place-at, code-held, spelled-length}
+use Rattle.texts.proofs.Legal.{SlipLegal, slip-legal, register-fits, RegisterLegal, register-legal, read-legal, place-at, place-within, code-held, spelled-length}
 use Rattle.texts.proofs.Putting.{joined-more}
 use Rattle.texts.proofs.Reading.{none-if}
 
@@ -150,6 +150,14 @@ slip-carried t x e h = go (slipIn t) refl
     go none i = let z : x .answer ≡ 1 = ap (λ (y : SlipRead). y .answer) e ∙ ap (λ o. answerOf ((form, not (found o)) ∷ [])) i in absurd (omega arith)
     go (some s) i = i ∙ ap some (sym (ap (λ (y : SlipRead). y .slip) e ∙ ap (orZeros noSlip) i))
 
+pub slip-given : (t : List ℕ) (s : Slip) → slipIn t ≡ some s → slipRead t .slip ≡ s
+unfolding slipRead
+slip-given t s i = ap (orZeros noSlip) i
+
+pub slip-form : (t : List ℕ) → slipIn t ≡ none → slipRead t .answer ≡ 1
+unfolding slipRead first
+slip-form t i = ap (λ o. answerOf ((form, not (found o)) ∷ [])) i
+
 pub slip-missing : (t : List ℕ) (x : SlipRead) → x ≡ slipRead t → (x .answer ≡ 0 → ⊥) → slipIn t ≡ none
 unfolding slipRead first
 slip-missing t x e h = none-if (slipIn t) (λ s i. h (ap (λ (y : SlipRead). y .answer) e ∙ ap (λ o. answerOf ((form, not (found o)) ∷ [])) i))
@@ -185,15 +193,6 @@ module _ (text : List ℕ) (x : RegisterRead) (e : x ≡ registerRead text) wher
 
     pub spot-refused : (start : ℕ) → (x .answer ≡ 0 → ⊥) → (false ≡ inRegister text c) × (_≡_ {A = Bool} false true → start ≡ startInRegister text c)
     spot-refused start h = (sym (in-is ∙ ap (λ b. b && listed (x .register) c) (ne-eqb (x .answer) 0 h)), λ f. absurd (false≢true f))
-
-pub place-within : (us : List Listed) (c : Code) → place us c ≤ length us
-unfolding place
-place-within [] c = omega arith
-place-within (s ∷ us) c = go (sameCode (s .code) c) refl (place-within us c)
-  where
-    go : (t : Bool) → sameCode (s .code) c ≡ t → place us c ≤ length us → place (s ∷ us) c ≤ suc (length us)
-    go true e h = rw (e, place) (omega arith)
-    go false e h = rw (e, place) (omega arith)
 
 pub position-within : (r : Register) (c : Code) (p : ℕ) → p ≡ position r c → p ≤ r .count
 position-within r c p e = omega (arith, place-within (shopsOf r) c, length-take (r .count) (r .shops))

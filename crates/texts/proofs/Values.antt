@@ -16,11 +16,12 @@ use Rattle.texts.specs.Lines.{pairLine}
 use Rattle.texts.specs.Register.{zeroListed, shopsLine, shopLine, shopLines, registerLayout}
 use Rattle.texts.specs.Slip.{zeroDep, depLine, slipLayout}
 use Rattle.texts.specs.Inside.{passes, zeroPair}
-use Rattle.texts.specs.Answers.{Meaning, Row, numberOf, first, answerOf}
+use Rattle.texts.specs.Answers.{Meaning, Row, numberOf, answerOf}
 use Rattle.texts.specs.declared.code.Code.{Code}
 use Rattle.texts.specs.declared.register.Register.{Register}
 use Rattle.texts.specs.declared.slip.Slip.{Slip}
 use Rattle.texts.proofs.Steps.{and}
+use Rattle.texts.proofs.Firsts.{applies, passes-by}
 use Rattle.texts.proofs.Legal.{SlipLegal, slip-legal, RegisterFits, register-fits}
 
 -- ---- tests
@@ -316,10 +317,8 @@ register-rest r places some most own t e =
 
 -- a row that applies gives its number
 pub row-applies : (m : Meaning) (t : Bool) (rows : List Row) → t ≡ true → numberOf m ≡ answerOf ((m, t) ∷ rows)
-unfolding first
-row-applies m t rows h = sym (ap (λ b. answerOf ((m, b) ∷ rows)) h)
+row-applies m t rows h = sym (applies m t rows h)
 
 -- one that does not leaves the answer to the others
 pub row-passed : (m : Meaning) (t : Bool) (rows : List Row) (n : ℕ) → t ≡ false → n ≡ answerOf rows → n ≡ answerOf ((m, t) ∷ rows)
-unfolding first
-row-passed m t rows n h e = e ∙ sym (ap (λ b. answerOf ((m, b) ∷ rows)) h)
+row-passed m t rows n h e = e ∙ sym (passes-by m t rows h)

@@ -10,14 +10,14 @@ use lib.ListN.{length, drop}
 use borrow.Author.Tests.{lt-ltb, le-ltb, not-false}
 use Rattle.texts.specs.Bounds.{registerRoom, slipRoom}
 use Rattle.texts.specs.Answers.{Row, first, answerOf, form, room}
-use Rattle.texts.specs.Written.{answered, buffered}
+use Rattle.texts.specs.Written.{over, answered, buffered}
 use Rattle.texts.specs.Register.{registerLayout, registerAnswer, registerWriteAnswer, registerWritten, registerBuffer}
 use Rattle.texts.specs.Slip.{slipLayout, slipWriteAnswer, slipWritten, slipBuffer}
 use Rattle.texts.specs.Inside.{Room, Wrote}
 use Rattle.texts.specs.declared.pen.Written.{Written}
 use Rattle.texts.specs.declared.register.Register.{Register}
 use Rattle.texts.specs.declared.slip.Slip.{Slip}
-use Rattle.texts.proofs.Firsts.{first-zero}
+use Rattle.texts.proofs.Firsts.{first-zero, applies, passes-by}
 use Rattle.texts.proofs.Lengths.{register-most, slip-most}
 
 -- ---- any answer
@@ -39,12 +39,10 @@ module _ (answer : ℕ) (text d : List ℕ) where
 -- ---- the refusal tables: 11 first, then the rest
 
 room-first : (least : ℕ) (d : List ℕ) (rows : List Row) → length d < least → answerOf ((room, ltb (length d) least) ∷ rows) ≡ 11
-unfolding first
-room-first least d rows h = ap (λ t. answerOf ((room, t) ∷ rows)) (lt-ltb (length d) least h)
+room-first least d rows h = applies room _ rows (lt-ltb (length d) least h)
 
 room-there : (least : ℕ) (d : List ℕ) (rows : List Row) → least ≤ length d → answerOf ((room, ltb (length d) least) ∷ rows) ≡ answerOf rows
-unfolding first
-room-there least d rows h = ap (λ t. answerOf ((room, t) ∷ rows)) (le-ltb (length d) least h)
+room-there least d rows h = passes-by room _ rows (le-ltb (length d) least h)
 
 module _ (r : Register) (d : List ℕ) where
   pub register-small : length d < registerRoom → (_≡_ {A = Written} (record { answer = 11; count = 0 }) (registerWritten r d)) × (d ≡ registerBuffer r d)
@@ -92,3 +90,8 @@ module _ (s : Slip) (d : List ℕ) where
       → (_≡_ {A = Written} (record { answer = 0; count = n }) (slipWritten s d)) × (d′ ≡ slipBuffer s d)
   unfolding first
   slip-done t h e f w = done _ (slipLayout .text s) d (form-there t h e ∙ ap (λ b. answerOf ((form, not b) ∷ [])) f) w
+
+-- a write with answer 0: its count, and the buffer
+pub slip-put : (s : Slip) (d : List ℕ) → slipWriteAnswer s d ≡ 0 → (slipWritten s d .count ≡ length (slipLayout .text s)) × (slipBuffer s d ≡ over (slipLayout .text s) d)
+unfolding answered buffered
+slip-put s d e = (ap (λ a. answered a (slipLayout .text s) .count) e, ap (λ a. buffered a (slipLayout .text s) d) e)

@@ -1,0 +1,13 @@
+pub mod Record
+pub mod Slips
+pub mod Checks
+pub mod State
+pub mod Settle
+pub mod Outcome
+pub mod Open
+pub mod Take
+pub mod Issue
+pub mod Balance
+pub mod Inside
+pub mod Promises
+pub mod Trials

@@ -1,0 +1,98 @@
+-- What is promised of the steps beside each call's own statement. The proofs are in proofs/Promises.
+use mathlib.Core.Path.{_≡_}
+use mathlib.Core.Bool.{true, false}
+use mathlib.Core.List.{List, [], _∷_}
+use Prim.Native.Nat.{ℕ, suc, _+_, _≤_, _<_}
+use lib.Dec.{eqb}
+use lib.ListN.{length}
+use Rattle.texts.specs.declared.slip.Slip.{Slip}
+use Rattle.replica.specs.declared.record.Replica.{Replica}
+use Rattle.replica.specs.declared.outcome.Outcome.{Outcome}
+use Rattle.replica.specs.Record.{shopCount, shopAt, lineAt, waitingAt}
+use Rattle.replica.specs.Slips.{waitingOf, slipOf, slipAt}
+use Rattle.replica.specs.Checks.{passes}
+use Rattle.replica.specs.State.{lawful}
+use Rattle.replica.specs.Settle.{ready, settled, applying}
+use Rattle.replica.specs.Open.{opened}
+use Rattle.replica.specs.Take.{slipFrom, payerOf, taken, takenList}
+use Rattle.replica.specs.Issue.{issued, issuedBuffer}
+use Rattle.replica.specs.Balance.{asked}
+
+-- ---- settling
+
+-- "Stop when no shop has a ready slip."
+abbrev pub SettlesToTheEnd : Type 0
+SettlesToTheEnd = (self : Replica) (p : ℕ) → p < shopCount self → ready (settled self) p ≡ false
+
+-- How often a position stands in a list.
+unfoldable pub times : ℕ → List ℕ → ℕ
+times q [] = 0
+times q (p ∷ list) = elim (eqb p q) [ true ↦ suc (times q list) | false ↦ times q list ]
+
+-- The listed positions are the rise in applied numbers, shop by shop.
+abbrev pub RisesAsListed : Type 0
+RisesAsListed = (self : Replica) → lawful self ≡ true → (q : ℕ) → q < shopCount self → shopAt (settled self) q .applied ≡ shopAt self q .applied + times q (applying self)
+
+-- ---- the state rule is kept
+
+abbrev pub OpensLawful : Type 0
+OpensLawful = (text : List ℕ) → opened text .answer ≡ 0 → lawful (opened text .replica) ≡ true
+
+abbrev pub TakesLawful : Type 0
+TakesLawful = (self : Replica) (text list : List ℕ) → lawful self ≡ true → lawful (taken self text list .replica) ≡ true
+
+abbrev pub IssuesLawful : Type 0
+IssuesLawful = (self : Replica) (payee : List ℕ) (amount : ℕ) (buffer : List ℕ) → lawful self ≡ true → lawful (issued self payee amount buffer .replica) ≡ true
+
+-- Asking a balance changes nothing.
+abbrev pub AsksSame : Type 0
+AsksSame = (self : Replica) (code : List ℕ) → asked self code .replica ≡ self
+
+-- ---- "A refusal returns its number with count and balance 0; the state comes back as it went in and lent bytes keep their values."
+
+pub record Kept (self : Replica) (o : Outcome) (lent after : List ℕ) : Type 0 where
+  pub count : o .count ≡ 0
+  pub balance : o .balance ≡ 0
+  pub state : o .replica ≡ self
+  pub bytes : after ≡ lent
+
+abbrev pub TakeRefusalKeeps : Type 0
+TakeRefusalKeeps =
+    (self : Replica) (text list : List ℕ) → (taken self text list .answer ≡ 0 → ⊥) → Kept self (taken self text list) list (takenList self text list)
+
+abbrev pub IssueRefusalKeeps : Type 0
+IssueRefusalKeeps =
+    (self : Replica) (payee : List ℕ) (amount : ℕ) (buffer : List ℕ) → (issued self payee amount buffer .answer ≡ 0 → ⊥)
+    → Kept self (issued self payee amount buffer) buffer (issuedBuffer self payee amount buffer)
+
+-- ---- "Who can refuse whom"
+
+-- Two lawful states that agree on the register and on the number taken in of the slip's payer, and lists that are large enough.
+pub record Alike (a b : Replica) (text xs ys : List ℕ) : Type 0 where
+  pub lawfulA : lawful a ≡ true
+  pub lawfulB : lawful b ≡ true
+  pub roomA : 128 ≤ length xs
+  pub roomB : 128 ≤ length ys
+  pub register : a .register ≡ b .register
+  pub taken : shopAt a (payerOf a (slipFrom text)) .taken ≡ shopAt b (payerOf b (slipFrom text)) .taken
+
+-- "answers 1 to 6 of a take rest on the register, the slip and the payer's taken number only"
+abbrev pub OneToSixAlike : Type 0
+OneToSixAlike =
+    (a b : Replica) (text xs ys : List ℕ) → Alike a b text xs ys → (k : ℕ) → 1 ≤ k → k ≤ 6
+    → (taken a text xs .answer ≡ k → taken b text ys .answer ≡ k) × (taken b text ys .answer ≡ k → taken a text xs .answer ≡ k)
+
+-- "Answer 7 rests besides on the payer's waiting count."
+abbrev pub SevenAlike : Type 0
+SevenAlike =
+    (a b : Replica) (text xs ys : List ℕ) → Alike a b text xs ys
+    → lineAt a (payerOf a (slipFrom text)) .count ≡ lineAt b (payerOf b (slipFrom text)) .count → taken a text xs .answer ≡ taken b text ys .answer
+
+-- ---- a waiting slip by position stands for the slip, one for one
+
+abbrev pub SlipsComeBack : Type 0
+SlipsComeBack = (self : Replica) (s : Slip) → lawful self ≡ true → passes (self .register) s ≡ true → slipOf (self .register) (waitingOf (self .register) s) ≡ s
+
+abbrev pub WaitingComesBack : Type 0
+WaitingComesBack =
+    (self : Replica) → lawful self ≡ true → (p k : ℕ) → p < shopCount self → k < lineAt self p .count → waitingOf (self .register) (slipAt self p k) ≡ waitingAt self p k

@@ -1,0 +1,55 @@
+-- A waiting slip by position and the slip itself: "dependencies are written as one number per shop".
+use mathlib.Core.Bool.{true, false}
+use mathlib.Core.List.{List, [], _∷_, _++_, map}
+use Prim.Native.Nat.{ℕ, zero, suc, _-_}
+use lib.ListN.{length, replicate}
+use Rattle.texts.specs.Code.{sameCode}
+use Rattle.texts.specs.Register.{position}
+use Rattle.texts.specs.Slip.{noDep, depsOf}
+use Rattle.texts.specs.declared.code.Code.{Code}
+use Rattle.texts.specs.declared.register.Listed.{Listed}
+use Rattle.texts.specs.declared.register.Register.{Register}
+use Rattle.texts.specs.declared.slip.Dep.{Dep}
+use Rattle.texts.specs.declared.slip.Slip.{Slip}
+use Rattle.replica.specs.declared.record.Waiting.{Waiting}
+use Rattle.replica.specs.declared.record.Replica.{Replica}
+use Rattle.replica.specs.Record.{listedAt, waitingAt}
+
+-- ---- from the slip
+
+-- The number of the dependency on that shop, 0 where there is none.
+unfoldable pub numberFor : List Dep → Code → ℕ
+numberFor [] c = 0
+numberFor (d ∷ ds) c = elim (sameCode c (d .code)) [ true ↦ d .number | false ↦ numberFor ds c ]
+
+unfoldable pub waitingOf : Register → Slip → Waiting
+waitingOf r s =
+    record {
+      payer = position r (s .payer);
+      number = s .number;
+      payee = position r (s .payee);
+      amount = s .amount;
+      needs = map (λ (l : Listed). numberFor (depsOf s) (l .code)) (r .shops);
+    }
+
+-- ---- to the slip
+
+-- One dependency per number that is not 0, in rising position.
+unfoldable pub depsFrom : List Listed → List ℕ → List Dep
+depsFrom [] ns = []
+depsFrom (l ∷ ls) [] = []
+depsFrom (l ∷ ls) (zero ∷ ns) = depsFrom ls ns
+depsFrom (l ∷ ls) (suc n ∷ ns) = record { code = l .code; number = suc n } ∷ depsFrom ls ns
+
+-- A slip with these dependencies, the other places zero.
+abbrev pub slipWith : Code → ℕ → Code → ℕ → List Dep → Slip
+slipWith payer number payee amount ds =
+    record { payer = payer; number = number; payee = payee; amount = amount; count = length ds; deps = ds ++ replicate (15 - length ds) noDep }
+
+unfoldable pub slipOf : Register → Waiting → Slip
+slipOf r w =
+    slipWith (listedAt r (w .payer) .code) (w .number) (listedAt r (w .payee) .code) (w .amount) (depsFrom (r .shops) (w .needs))
+
+-- The slip at place k of the line of shop p.
+abbrev pub slipAt : Replica → ℕ → ℕ → Slip
+slipAt self p k = slipOf (self .register) (waitingAt self p k)
