@@ -22,10 +22,9 @@ use Rattle.texts.specs.declared.slip.Slip.{Slip}
 use Rattle.texts.specs.declared.pen.Written.{Written}
 use Rattle.texts.proofs.Firsts.{first-zero, zero-first, no-rows}
 use Rattle.texts.proofs.Steps.{neither, nor}
-use Rattle.texts.proofs.WritingTexts.{slip-put}
+use Rattle.texts.proofs.WritingTexts.{slip-put, form-there}
 use Rattle.texts.proofs.Legal.{register-legal}
 use Rattle.texts.proofs.Values.{left-of, row-applies, row-passed}
-use Rattle.texts.proofs.WritingTexts.{form-there}
 use Rattle.replica.specs.declared.record.Shop.{Shop}
 use Rattle.replica.specs.declared.record.Replica.{Replica}
 use Rattle.replica.specs.declared.issue.Own.{Own}

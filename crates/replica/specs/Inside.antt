@@ -22,6 +22,7 @@ use Rattle.replica.specs.declared.record.Waiting.{Waiting}
 use Rattle.replica.specs.declared.record.Line.{Line}
 use Rattle.replica.specs.declared.record.Replica.{Replica}
 use Rattle.replica.specs.declared.outcome.Outcome.{Outcome}
+use Rattle.replica.specs.Bounds.{mostCredit, mostWaiting}
 use Rattle.replica.specs.Record.{noShop, listedAt, adjust, sumTo, every}
 use Rattle.replica.specs.Checks.{checkRows}
 use Rattle.replica.specs.State.{zeroShop, zeroWaiting, zeroLine}
@@ -52,7 +53,7 @@ abbrev pub slipPlace : Line → ℕ → Waiting
 slipPlace l k = getD (l .slips) k (record { payer = 0; number = 0; payee = 0; amount = 0; needs = [] })
 
 unfoldable pub lineKeptAt : ℕ → ℕ → ℕ → Line → Bool
-lineKeptAt payer n applied l = eqb (length (l .slips)) 8 && (leb (l .count) 8 && every 8 (λ k. placeKept k (l .count) payer n applied (slipPlace l k)))
+lineKeptAt payer n applied l = eqb (length (l .slips)) mostWaiting && (leb (l .count) mostWaiting && every mostWaiting (λ k. placeKept k (l .count) payer n applied (slipPlace l k)))
 
 unfoldable pub numbersKept : ℕ → Shop → Bool
 numbersKept waits s = eqb (s .taken) (s .applied + waits) && (leb (s .taken) most && leb (s .mark) (s .applied))
@@ -104,7 +105,7 @@ pub record Movable (shops : List Shop) (p : ℕ) (w : Waiting) : Type 0 where
   pub other : w .payee ≡ p → ⊥
   pub funds : w .amount ≤ getD shops p noShop .balance
   pub count : getD shops p noShop .applied ≤ most
-  pub room : getD shops (w .payee) noShop .balance + w .amount ≤ 15999984
+  pub room : getD shops (w .payee) noShop .balance + w .amount ≤ mostCredit
 
 unfoldable pub movedFunds : ℕ → ℕ → Waiting → List Shop → List Shop
 movedFunds own p w shops = adjust (paid (w .amount)) (w .payee) (adjust (paying (eqb (w .payee) own) (w .number) (w .amount)) p shops)

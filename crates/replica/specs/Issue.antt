@@ -4,6 +4,7 @@ use mathlib.Core.List.{List, [], _∷_, map}
 use Prim.Native.Nat.{ℕ, zero, suc, _+_}
 use lib.ListN.{length}
 use lib.Dec.{ltb, eqb}
+use Rattle.texts.specs.Bounds.{most, slipRoom}
 use Rattle.texts.specs.Answers.{Row, shop, oneself, range, busy, short, usedup, room, state, answerOf}
 use Rattle.texts.specs.Written.{over}
 use Rattle.texts.specs.Code.{sameCode, codeOf}
@@ -29,12 +30,12 @@ busy? self = ltb (ownShop self .applied) (self .issued) || ltb 0 (lineAt self (o
 unfoldable pub issueRows : Replica → List ℕ → ℕ → List ℕ → List Row
 issueRows self payee amount buffer =
     (state, not (lawful self)) ∷
-    (room, ltb (length buffer) 366) ∷
+    (room, ltb (length buffer) slipRoom) ∷
     (shop, not (listed (self .register) (codeOf payee))) ∷
     (oneself, sameCode (codeOf payee) (self .register .own)) ∷
-    (range, eqb amount 0 || ltb 999999 amount) ∷
+    (range, eqb amount 0 || ltb most amount) ∷
     (busy, busy? self) ∷
-    (usedup, eqb (ownShop self .applied) 999999) ∷
+    (usedup, eqb (ownShop self .applied) most) ∷
     (short, ltb (ownShop self .balance) amount) ∷
     []
 

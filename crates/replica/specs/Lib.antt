@@ -1,3 +1,4 @@
+pub mod Bounds
 pub mod Record
 pub mod Slips
 pub mod Checks

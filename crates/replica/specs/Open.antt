@@ -2,6 +2,7 @@
 use mathlib.Core.List.{List, map}
 use Prim.Native.Nat.{ℕ, zero, suc}
 use lib.ListN.{replicate}
+use Rattle.texts.specs.Bounds.{mostShops}
 use Rattle.texts.specs.Register.{registerRead}
 use Rattle.texts.specs.declared.register.Listed.{Listed}
 use Rattle.texts.specs.declared.register.Register.{Register}
@@ -15,7 +16,7 @@ abbrev pub opening : Listed → Shop
 opening l = record { balance = l .opening; taken = 0; applied = 0; mark = 0 }
 
 unfoldable pub fresh : Register → Replica
-fresh r = record { register = r; issued = 0; shops = map opening (r .shops); lines = replicate 16 noLine }
+fresh r = record { register = r; issued = 0; shops = map opening (r .shops); lines = replicate mostShops noLine }
 
 -- "A refused register gives a record of zeros, which every call refuses with 13."
 unfoldable pub opened : List ℕ → Outcome

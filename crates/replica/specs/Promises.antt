@@ -8,6 +8,7 @@ use lib.ListN.{length}
 use Rattle.texts.specs.declared.slip.Slip.{Slip}
 use Rattle.replica.specs.declared.record.Replica.{Replica}
 use Rattle.replica.specs.declared.outcome.Outcome.{Outcome}
+use Rattle.replica.specs.Bounds.{listRoom}
 use Rattle.replica.specs.Record.{shopCount, shopAt, lineAt, waitingAt}
 use Rattle.replica.specs.Slips.{waitingOf, slipOf, slipAt}
 use Rattle.replica.specs.Checks.{passes}
@@ -71,8 +72,8 @@ IssueRefusalKeeps =
 pub record Alike (a b : Replica) (text xs ys : List ℕ) : Type 0 where
   pub lawfulA : lawful a ≡ true
   pub lawfulB : lawful b ≡ true
-  pub roomA : 128 ≤ length xs
-  pub roomB : 128 ≤ length ys
+  pub roomA : listRoom ≤ length xs
+  pub roomB : listRoom ≤ length ys
   pub register : a .register ≡ b .register
   pub taken : shopAt a (payerOf a (slipFrom text)) .taken ≡ shopAt b (payerOf b (slipFrom text)) .taken
 

@@ -4,6 +4,7 @@ use mathlib.Core.Bool.{Bool, true, _&&_}
 use mathlib.Core.List.{List, []}
 use Prim.Native.Nat.{ℕ, zero, suc, _+_}
 use lib.ListN.{getD, set, replicate}
+use Rattle.texts.specs.Bounds.{mostShops}
 use Rattle.texts.specs.Register.{noRegister, position}
 use Rattle.texts.specs.declared.register.Listed.{Listed}
 use Rattle.texts.specs.declared.register.Register.{Register}
@@ -11,6 +12,7 @@ use Rattle.replica.specs.declared.record.Shop.{Shop}
 use Rattle.replica.specs.declared.record.Waiting.{Waiting}
 use Rattle.replica.specs.declared.record.Line.{Line}
 use Rattle.replica.specs.declared.record.Replica.{Replica}
+use Rattle.replica.specs.Bounds.{mostWaiting}
 
 -- ---- zeros
 
@@ -18,13 +20,13 @@ abbrev pub noShop : Shop
 noShop = record { balance = 0; taken = 0; applied = 0; mark = 0 }
 
 abbrev pub noWaiting : Waiting
-noWaiting = record { payer = 0; number = 0; payee = 0; amount = 0; needs = replicate 16 0 }
+noWaiting = record { payer = 0; number = 0; payee = 0; amount = 0; needs = replicate mostShops 0 }
 
 abbrev pub noLine : Line
-noLine = record { count = 0; slips = replicate 8 noWaiting }
+noLine = record { count = 0; slips = replicate mostWaiting noWaiting }
 
 abbrev pub noReplica : Replica
-noReplica = record { register = noRegister; issued = 0; shops = replicate 16 noShop; lines = replicate 16 noLine }
+noReplica = record { register = noRegister; issued = 0; shops = replicate mostShops noShop; lines = replicate mostShops noLine }
 
 -- ---- parts by position. Past an array's end stands what the checker has there; nothing below asks for it.
 

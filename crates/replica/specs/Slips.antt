@@ -3,6 +3,7 @@ use mathlib.Core.Bool.{true, false}
 use mathlib.Core.List.{List, [], _∷_, _++_, map}
 use Prim.Native.Nat.{ℕ, zero, suc, _-_}
 use lib.ListN.{length, replicate}
+use Rattle.texts.specs.Bounds.{mostDeps}
 use Rattle.texts.specs.Code.{sameCode}
 use Rattle.texts.specs.Register.{position}
 use Rattle.texts.specs.Slip.{noDep, depsOf}
@@ -44,7 +45,7 @@ depsFrom (l ∷ ls) (suc n ∷ ns) = record { code = l .code; number = suc n } �
 -- A slip with these dependencies, the other places zero.
 abbrev pub slipWith : Code → ℕ → Code → ℕ → List Dep → Slip
 slipWith payer number payee amount ds =
-    record { payer = payer; number = number; payee = payee; amount = amount; count = length ds; deps = ds ++ replicate (15 - length ds) noDep }
+    record { payer = payer; number = number; payee = payee; amount = amount; count = length ds; deps = ds ++ replicate (mostDeps - length ds) noDep }
 
 unfoldable pub slipOf : Register → Waiting → Slip
 slipOf r w =

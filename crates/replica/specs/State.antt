@@ -5,12 +5,14 @@ use mathlib.Core.List.{List, [], _∷_}
 use Prim.Native.Nat.{ℕ, _+_, _≤_}
 use lib.ListN.{length, drop}
 use lib.Dec.{leb, eqb}
+use Rattle.texts.specs.Bounds.{most, mostShops}
 use Rattle.texts.specs.Bytes.{allOf}
 use Rattle.texts.specs.Register.{registerAnswer}
 use Rattle.replica.specs.declared.record.Shop.{Shop}
 use Rattle.replica.specs.declared.record.Waiting.{Waiting}
 use Rattle.replica.specs.declared.record.Line.{Line}
 use Rattle.replica.specs.declared.record.Replica.{Replica}
+use Rattle.replica.specs.Bounds.{mostCredit, mostWaiting}
 use Rattle.replica.specs.Record.{listedAt, shopCount, own, shopAt, lineAt, waitingAt, sumTo, every}
 use Rattle.replica.specs.Slips.{slipAt}
 use Rattle.replica.specs.Checks.{passes}
@@ -30,22 +32,22 @@ abbrev pub zeroShop : Shop → Bool
 zeroShop s = eqb (s .balance) 0 && (eqb (s .taken) 0 && (eqb (s .applied) 0 && eqb (s .mark) 0))
 
 abbrev pub zeroWaiting : Waiting → Bool
-zeroWaiting w = eqb (w .payer) 0 && (eqb (w .number) 0 && (eqb (w .payee) 0 && (eqb (w .amount) 0 && zeroFrom 16 (eqb 0) 0 (w .needs))))
+zeroWaiting w = eqb (w .payer) 0 && (eqb (w .number) 0 && (eqb (w .payee) 0 && (eqb (w .amount) 0 && zeroFrom mostShops (eqb 0) 0 (w .needs))))
 
 abbrev pub zeroLine : Line → Bool
-zeroLine l = eqb (l .count) 0 && zeroFrom 8 zeroWaiting 0 (l .slips)
+zeroLine l = eqb (l .count) 0 && zeroFrom mostWaiting zeroWaiting 0 (l .slips)
 
 -- The line's unused places, and in its slips the numbers of shops that there are not.
 abbrev pub restZero : ℕ → Line → Bool
-restZero n l = zeroFrom 8 zeroWaiting (l .count) (l .slips) && allOf (λ (w : Waiting). zeroFrom 16 (eqb 0) n (w .needs)) (l .slips)
+restZero n l = zeroFrom mostWaiting zeroWaiting (l .count) (l .slips) && allOf (λ (w : Waiting). zeroFrom mostShops (eqb 0) n (w .needs)) (l .slips)
 
 -- ---- the clauses
 
 -- "each shop has at most 8 waiting", "and its taken number is applied + waiting and at most 999,999"
 unfoldable pub lineKept : Replica → ℕ → Bool
 lineKept self p =
-    leb (lineAt self p .count) 8 &&
-    (eqb (shopAt self p .taken) (shopAt self p .applied + lineAt self p .count) && leb (shopAt self p .taken) 999999)
+    leb (lineAt self p .count) mostWaiting &&
+    (eqb (shopAt self p .taken) (shopAt self p .applied + lineAt self p .count) && leb (shopAt self p .taken) most)
 
 -- "numbered on from applied + 1"
 unfoldable pub numberedOn : Replica → ℕ → Bool
@@ -65,8 +67,8 @@ lawful self =
     -- "A legal register of 1 to 16 shops"
     eqb (registerAnswer (self .register)) 0 ∷
     -- "unused places of the record are zero"
-    zeroFrom 16 zeroShop (shopCount self) (self .shops) ∷
-    zeroFrom 16 zeroLine (shopCount self) (self .lines) ∷
+    zeroFrom mostShops zeroShop (shopCount self) (self .shops) ∷
+    zeroFrom mostShops zeroLine (shopCount self) (self .lines) ∷
     every (shopCount self) (λ p. restZero (shopCount self) (lineAt self p)) ∷
     -- "balances add up to the openings"
     eqb (sumTo (shopCount self) (λ p. shopAt self p .balance)) (sumTo (shopCount self) (λ p. listedAt (self .register) p .opening)) ∷
@@ -78,10 +80,10 @@ lawful self =
     every (shopCount self) (λ p. leb (shopAt self p .mark) (shopAt self p .applied)) ∷
     eqb (shopAt self (own self) .mark) 0 ∷
     -- "the issued number is at most 999,999 and at most own applied + 1"
-    leb (self .issued) 999999 ∷
+    leb (self .issued) most ∷
     leb (self .issued) (shopAt self (own self) .applied + 1) ∷
     [])
 
 -- "The sum of balances is at most 15,999,984": it is no clause, since it follows (proofs/Most).
 abbrev pub SumAtMost : Type 0
-SumAtMost = (self : Replica) → lawful self ≡ true → sumTo (shopCount self) (λ p. shopAt self p .balance) ≤ 15999984
+SumAtMost = (self : Replica) → lawful self ≡ true → sumTo (shopCount self) (λ p. shopAt self p .balance) ≤ mostCredit

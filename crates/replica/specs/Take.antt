@@ -15,6 +15,7 @@ use Rattle.replica.specs.declared.record.Waiting.{Waiting}
 use Rattle.replica.specs.declared.record.Line.{Line}
 use Rattle.replica.specs.declared.record.Replica.{Replica}
 use Rattle.replica.specs.declared.outcome.Outcome.{Outcome}
+use Rattle.replica.specs.Bounds.{listRoom, mostWaiting}
 use Rattle.replica.specs.Record.{shopAt, lineAt, adjust}
 use Rattle.replica.specs.Slips.{waitingOf}
 use Rattle.replica.specs.Checks.{range?, shop?, self?, deps?}
@@ -35,14 +36,14 @@ number? self s = not (eqb (s .number) (shopAt self (payerOf self s) .taken + 1))
 
 -- 7 full: the payer has 8 waiting
 abbrev pub full? : Replica → Slip → Bool
-full? self s = leb 8 (lineAt self (payerOf self s) .count)
+full? self s = leb mostWaiting (lineAt self (payerOf self s) .count)
 
 -- "Take: 13, 11, 1, 4, 2, 3, 5, 6, 7."
 unfoldable pub takeRows : Replica → List ℕ → List ℕ → List Row
 takeRows self text list =
     let s = slipFrom text in
     (state, not (lawful self)) ∷
-    (room, ltb (length list) 128) ∷
+    (room, ltb (length list) listRoom) ∷
     (form, not (found (slipIn text))) ∷
     (range, range? s) ∷
     (shop, shop? (self .register) s) ∷

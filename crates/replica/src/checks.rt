@@ -12,6 +12,7 @@ use texts::bounds::SHOPS;
 ghost use mathlib.Core.Path.{_≡_};
 ghost use mathlib.Core.Bool.{true, false, not};
 ghost use Prim.Native.Nat.{_≤_};
+ghost use Rattle.texts.specs.Bounds.{mostDeps};
 ghost use Rattle.texts.specs.Answers.{answerOf};
 ghost use Rattle.texts.specs.Register.{registerAnswer};
 ghost use Rattle.texts.specs.Slip.{slipLayout, depsOf};
@@ -28,7 +29,7 @@ pub(crate) struct Places {
 
 // Each code is looked up once.
 pub(crate) fn places_of(register: Register, slip: Slip) -> Places
-    requires { ⌜ slip .count ≤ 15 ⌝ }
+    requires { ⌜ slip .count ≤ mostDeps ⌝ }
     ensures { λ r. ⌜ r ≡ placesOf register slip ⌝ }
 {
     let payer = register.position(slip.payer);
@@ -46,7 +47,7 @@ pub(crate) fn places_of(register: Register, slip: Slip) -> Places
 
 // Is the slip's number, its amount or a dependency's number 0.
 fn has_zero(slip: Slip) -> bool
-    requires { ⌜ slip .count ≤ 15 ⌝ }
+    requires { ⌜ slip .count ≤ mostDeps ⌝ }
     ensures { λ r. ⌜ r ≡ range? slip ⌝ }
 {
     if slip.number == 0 {
@@ -69,7 +70,7 @@ fn has_zero(slip: Slip) -> bool
 
 // Are the payer, the payee and the dependencies all among the n shops.
 fn all_listed(register: Register, slip: Slip, places: Places) -> bool
-    requires { ⌜ (registerAnswer register ≡ 0) × (slip .count ≤ 15) × (places ≡ placesOf register slip) ⌝ }
+    requires { ⌜ (registerAnswer register ≡ 0) × (slip .count ≤ mostDeps) × (places ≡ placesOf register slip) ⌝ }
     ensures { λ r. ⌜ r ≡ not (shop? register slip) ⌝ }
 {
     let shops = register.count;
@@ -92,7 +93,7 @@ fn all_listed(register: Register, slip: Slip, places: Places) -> bool
 
 // Do the dependencies stand in strictly rising position, and none names the payer.
 fn deps_rise(register: Register, slip: Slip, places: Places) -> bool
-    requires { ⌜ (slip .count ≤ 15) × (places ≡ placesOf register slip) ⌝ }
+    requires { ⌜ (slip .count ≤ mostDeps) × (places ≡ placesOf register slip) ⌝ }
     ensures { λ r. ⌜ r ≡ rising register (places .payer) 0 (depsOf slip) ⌝ }
 {
     let payer = places.payer;
@@ -115,7 +116,7 @@ fn deps_rise(register: Register, slip: Slip, places: Places) -> bool
 
 // The checks 4, 2, 3 and 5, or 0.
 pub(crate) fn slip_answer(register: Register, slip: Slip, places: Places) -> u8
-    requires { ⌜ (registerAnswer register ≡ 0) × (slip .count ≤ 15) × (places ≡ placesOf register slip) ⌝ }
+    requires { ⌜ (registerAnswer register ≡ 0) × (slip .count ≤ mostDeps) × (places ≡ placesOf register slip) ⌝ }
     ensures { λ r. ⌜ r ≡ answerOf (checkRows register slip) ⌝ }
 {
     let payer = slip.payer;

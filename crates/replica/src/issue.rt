@@ -25,6 +25,7 @@ ghost use mathlib.Core.Bool.{true};
 ghost use mathlib.Core.List.{map};
 ghost use Prim.Native.Nat.{_≤_};
 ghost use lib.ListN.{length};
+ghost use Rattle.texts.specs.Bounds.{mostDeps};
 ghost use Rattle.texts.specs.Answers.{answerOf};
 ghost use Rattle.replica.specs.Slips.{depsFrom, slipWith};
 ghost use Rattle.replica.specs.Record.{own, lineAt};
@@ -59,7 +60,7 @@ fn slip_with_marks(
     payee: Code,
     amount: u32,
 ) -> Slip
-    requires { ⌜ length (depsFrom (register .shops) (marksOf shops)) ≤ 15 ⌝ }
+    requires { ⌜ length (depsFrom (register .shops) (marksOf shops)) ≤ mostDeps ⌝ }
     ensures { λ r. ⌜ r ≡ slipWith (register .own) number payee amount (depsFrom (register .shops) (marksOf shops)) ⌝ }
 {
     let mut slip = Slip::none();

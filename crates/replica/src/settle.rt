@@ -11,7 +11,9 @@ ghost use mathlib.Core.Path.{_≡_};
 ghost use mathlib.Core.Bool.{true, false};
 ghost use Prim.Native.Nat.{_+_, _≤_, _<_};
 ghost use lib.ListN.{length};
+ghost use Rattle.texts.specs.Bounds.{most, mostShops};
 ghost use Rattle.texts.specs.Written.{over};
+ghost use Rattle.replica.specs.Bounds.{listRoom, mostCredit, mostWaiting};
 ghost use Rattle.replica.specs.State.{lawful};
 ghost use Rattle.replica.specs.Settle.{paying, paid, settled, applying, withoutFirst};
 ghost use Rattle.replica.specs.Take.{withLast};
@@ -20,7 +22,7 @@ ghost use Rattle.replica.specs.Inside.{needsApplied, slipReady, movedFun
 
 // Is every number that a slip asks for applied at its shop.
 fn needs_applied(shops: [Shop; SHOPS], n: usize, needs: [u32; SHOPS]) -> bool
-    requires { ⌜ n ≤ 16 ⌝ }
+    requires { ⌜ n ≤ mostShops ⌝ }
     ensures { λ r. ⌜ r ≡ needsApplied shops n needs ⌝ }
 {
     let mut i = 0;
@@ -35,7 +37,7 @@ fn needs_applied(shops: [Shop; SHOPS], n: usize, needs: [u32; SHOPS]) -> bool
 
 // Is a first waiting slip ready: its number is the next, the payer's balance covers it, its dependencies are applied.
 fn slip_ready(shops: [Shop; SHOPS], n: usize, payer: usize, slip: Waiting) -> bool
-    requires { ⌜ (n ≤ 16) × (payer < n) ⌝ }
+    requires { ⌜ (n ≤ mostShops) × (payer < n) ⌝ }
     ensures { λ r. ⌜ r ≡ slipReady shops n payer slip ⌝ }
 {
     let shop = shops[payer];
@@ -55,7 +57,7 @@ fn slip_ready(shops: [Shop; SHOPS], n: usize, payer: usize, slip: Waiting) -> bo
 impl Shop {
     // The shop when its slip of that number is applied: the amount leaves it, and it is marked where it pays the own shop.
     fn paying(mut self, marks: bool, number: u32, amount: u32) -> Self
-        requires { ⌜ (amount ≤ self .balance) × (self .applied ≤ 999999) ⌝ }
+        requires { ⌜ (amount ≤ self .balance) × (self .applied ≤ most) ⌝ }
         ensures { λ r. ⌜ r ≡ paying marks number amount self ⌝ }
     {
         self.balance = self.balance - amount;
@@ -68,7 +70,7 @@ impl Shop {
 
     // The shop when the amount goes to it.
     fn paid(mut self, amount: u32) -> Self
-        requires { ⌜ self .balance + amount ≤ 15999984 ⌝ }
+        requires { ⌜ self .balance + amount ≤ mostCredit ⌝ }
         ensures { λ r. ⌜ r ≡ paid amount self ⌝ }
     {
         self.balance = self.balance + amount;
@@ -92,7 +94,7 @@ fn moved(mut shops: [Shop; SHOPS], own: usize, payer: usize, slip: Waiting) -> [
 impl Line {
     // The line with one slip more, last.
     pub(crate) fn with_last(mut self, slip: Waiting) -> Self
-        requires { ⌜ self .count < 8 ⌝ }
+        requires { ⌜ self .count < mostWaiting ⌝ }
         ensures { λ r. ⌜ r ≡ withLast self slip ⌝ }
     {
         let n = self.count;
@@ -103,7 +105,7 @@ impl Line {
 
     // The line when its first slip is gone: the others move up, and the place freed is zero.
     fn without_first(mut self) -> Self
-        requires { ⌜ (0 < self .count) × (self .count ≤ 8) ⌝ }
+        requires { ⌜ (0 < self .count) × (self .count ≤ mostWaiting) ⌝ }
         ensures { λ r. ⌜ r ≡ withoutFirst self ⌝ }
     {
         let mut k = 1;
@@ -121,7 +123,7 @@ impl Line {
 impl Replica {
     // At the first ready slip apply it, then start again from the first shop; stop when no shop has a ready slip.
     pub(crate) fn settle(mut self, list: &mut [u8]) -> Outcome
-        requires { ⌜ (lawful self ≡ true) × (128 ≤ length (now list)) ⌝ }
+        requires { ⌜ (lawful self ≡ true) × (listRoom ≤ length (now list)) ⌝ }
         ensures outcome { λ r. ⌜ r ≡ did (length (applying self)) (settled self) ⌝ }
         ensures bytes { λ r. ⌜ now (list .exit) ≡ over (applying self) (now (list .entry)) ⌝ }
     {

@@ -11,12 +11,14 @@ use texts::bounds::SHOPS;
 ghost use mathlib.Core.Path.{_≡_};
 ghost use Prim.Native.Nat.{_+_, _≤_, _<_};
 ghost use lib.Dec.{eqb};
+ghost use Rattle.texts.specs.Bounds.{most, mostShops};
+ghost use Rattle.replica.specs.Bounds.{mostWaiting};
 ghost use Rattle.replica.specs.State.{zeroFrom, zeroShop, zeroWaiting, zeroLine, lawful};
 ghost use Rattle.replica.specs.Inside.{needsKept, slipKept, placeKept, lineKeptAt, balanced, numbersKept, ownKept, shopKept};
 
 // Are the numbers from a position on all zero.
 fn zero_from(needs: [u32; SHOPS], from: usize) -> bool
-    ensures { λ r. ⌜ r ≡ zeroFrom 16 (eqb 0) from needs ⌝ }
+    ensures { λ r. ⌜ r ≡ zeroFrom mostShops (eqb 0) from needs ⌝ }
 {
     let mut i = from;
     while i < SHOPS {
@@ -105,7 +107,7 @@ impl Waiting {
 
 // Is the place k of the line of a shop as it must be: a slip with the next number where it is used, else zeros.
 fn place_kept(slip: Waiting, k: usize, waits: usize, payer: usize, n: usize, applied: u32) -> bool
-    requires { ⌜ (applied ≤ 999999) × (k < 8) ⌝ }
+    requires { ⌜ (applied ≤ most) × (k < mostWaiting) ⌝ }
     ensures { λ r. ⌜ r ≡ placeKept k waits payer n applied slip ⌝ }
 {
     if k < waits {
@@ -135,7 +137,7 @@ impl Line {
 
     // Is it the line of that shop, of n, whose slips up to the number applied are gone.
     fn is_kept(self, payer: usize, n: usize, applied: u32) -> bool
-        requires { ⌜ applied ≤ 999999 ⌝ }
+        requires { ⌜ applied ≤ most ⌝ }
         ensures { λ r. ⌜ r ≡ lineKeptAt payer n applied self ⌝ }
     {
         let waits = self.count;
@@ -190,7 +192,7 @@ impl Shop {
 
 // Do the balances of the first n shops add up to their openings.
 fn is_balanced(register: Register, shops: [Shop; SHOPS]) -> bool
-    requires { ⌜ register .count ≤ 16 ⌝ }
+    requires { ⌜ register .count ≤ mostShops ⌝ }
     ensures { λ r. ⌜ r ≡ balanced register shops ⌝ }
 {
     let n = register.count;

@@ -18,6 +18,7 @@ ghost use mathlib.Core.Bool.{true};
 ghost use Prim.Native.Nat.{_≤_};
 ghost use lib.ListN.{length};
 ghost use Rattle.texts.specs.Slip.{slipLayout};
+ghost use Rattle.replica.specs.Bounds.{listRoom};
 ghost use Rattle.replica.specs.State.{lawful};
 ghost use Rattle.replica.specs.Take.{taken, takenList};
 ghost use Rattle.replica.specs.Inside.{tookSlip, tookList};
@@ -25,7 +26,7 @@ ghost use Rattle.replica.specs.Inside.{tookSlip, tookList};
 impl Replica {
     // Takes in a slip that was read: the checks 4, 2, 3, 5, 6, 7; accepted, it goes last in its payer's line, then settle.
     fn take_slip(mut self, slip: Slip, list: &mut [u8]) -> Outcome
-        requires { ⌜ (lawful self ≡ true) × (slipLayout .legal slip ≡ true) × (128 ≤ length (now list)) ⌝ }
+        requires { ⌜ (lawful self ≡ true) × (slipLayout .legal slip ≡ true) × (listRoom ≤ length (now list)) ⌝ }
         ensures outcome { λ r. ⌜ r ≡ tookSlip self slip ⌝ }
         ensures bytes { λ r. ⌜ now (list .exit) ≡ tookList self slip (now (list .entry)) ⌝ }
     {

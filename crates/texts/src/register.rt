@@ -20,6 +20,7 @@ ghost use mathlib.Core.Path.{_≡_};
 ghost use mathlib.Core.Bool.{true, _&&_};
 ghost use Prim.Native.Nat.{_+_, _≤_};
 ghost use lib.ListN.{length, take, drop};
+ghost use Rattle.texts.specs.Bounds.{mostShops};
 ghost use Rattle.texts.specs.Bytes.{allOf};
 ghost use Rattle.texts.specs.Register.{noListed, noRegister, zeroListed, shopLine, shopLines, registerLayout, place, twins, shopsOf, position, listed, ownRows, registerAnswer, registerRead, registerWritten, registerBuffer};
 ghost use Rattle.texts.specs.Answers.{answerOf};
@@ -67,7 +68,7 @@ fn no_listed() -> Listed
 
 // The position of a code among the first n shops, looked for from a position on; past the last where it is not there.
 fn place_from(shops: [Listed; SHOPS], n: usize, from: usize, code: Code) -> usize
-    requires { ⌜ (n ≤ 16) × (from ≤ n) ⌝ }
+    requires { ⌜ (n ≤ mostShops) × (from ≤ n) ⌝ }
     ensures { λ r. ⌜ r ≡ from + place (drop from (take n shops)) code ⌝ }
 {
     let mut i = from;
@@ -84,7 +85,7 @@ fn place_from(shops: [Listed; SHOPS], n: usize, from: usize, code: Code) -> usiz
 
 // Are there two equal codes among the first n shops.
 fn has_twins(shops: [Listed; SHOPS], n: usize) -> bool
-    requires { ⌜ n ≤ 16 ⌝ }
+    requires { ⌜ n ≤ mostShops ⌝ }
     ensures { λ r. ⌜ r ≡ twins (take n shops) ⌝ }
 {
     let mut i = 0;
@@ -129,7 +130,7 @@ impl Register {
 
     // How many shops are in use.
     fn size(self) -> usize
-        ensures { λ r. ⌜ (r ≤ 16) × (r ≡ length (shopsOf self)) ⌝ }
+        ensures { λ r. ⌜ (r ≤ mostShops) × (r ≡ length (shopsOf self)) ⌝ }
     {
         let n = self.count;
         if SHOPS < n {
@@ -204,7 +205,7 @@ impl Register {
 
 // The lines of n shops.
 fn shops_at(s: &[u8], c: Cursor, n: usize) -> ShopsAt
-    requires { ⌜ n ≤ 16 ⌝ }
+    requires { ⌜ n ≤ mostShops ⌝ }
     ensures { λ r. ⌜ Reads (shopLines n) (now (s .entry)) c (r .shops) (r .next) ⌝ }
 {
     let none = no_listed();
@@ -267,7 +268,7 @@ pub fn read_register(text: &[u8]) -> RegisterRead
 
 // The lines of n shops.
 fn put_shops(buf: &mut [u8], at: usize, shops: [Listed; SHOPS], n: usize) -> usize
-    requires { ⌜ (n ≤ 16) × (allOf (shopLine .legal) (take n shops) ≡ true) × Room (now buf) at (shopLines n .text shops) ⌝ }
+    requires { ⌜ (n ≤ mostShops) × (allOf (shopLine .legal) (take n shops) ≡ true) × Room (now buf) at (shopLines n .text shops) ⌝ }
     ensures { λ r. ⌜ Wrote (now (buf .entry)) at (shopLines n .text shops) (now (buf .exit)) r ⌝ }
 {
     let mut next = at;

@@ -19,6 +19,7 @@ ghost use mathlib.Core.Path.{_≡_};
 ghost use mathlib.Core.Bool.{true, _&&_};
 ghost use Prim.Native.Nat.{_≤_};
 ghost use lib.ListN.{take, drop};
+ghost use Rattle.texts.specs.Bounds.{mostDeps};
 ghost use Rattle.texts.specs.Bytes.{allOf};
 ghost use Rattle.texts.specs.Slip.{noDep, noSlip, zeroDep, depLine, depLines, slipLayout, slipRead, slipWritten, slipBuffer};
 ghost use Rattle.texts.specs.Inside.{Reads, Room, Wrote};
@@ -126,7 +127,7 @@ impl Slip {
 
 // The lines of n dependencies.
 fn deps_at(s: &[u8], c: Cursor, n: usize) -> DepsAt
-    requires { ⌜ n ≤ 15 ⌝ }
+    requires { ⌜ n ≤ mostDeps ⌝ }
     ensures { λ r. ⌜ Reads (depLines n) (now (s .entry)) c (r .deps) (r .next) ⌝ }
 {
     let none = no_dep();
@@ -193,7 +194,7 @@ pub fn read_slip(text: &[u8]) -> SlipRead
 
 // The lines of n dependencies.
 fn put_deps(buf: &mut [u8], at: usize, deps: [Dep; DEPS], n: usize) -> usize
-    requires { ⌜ (n ≤ 15) × (allOf (depLine .legal) (take n deps) ≡ true) × Room (now buf) at (depLines n .text deps) ⌝ }
+    requires { ⌜ (n ≤ mostDeps) × (allOf (depLine .legal) (take n deps) ≡ true) × Room (now buf) at (depLines n .text deps) ⌝ }
     ensures { λ r. ⌜ Wrote (now (buf .entry)) at (depLines n .text deps) (now (buf .exit)) r ⌝ }
 {
     let mut next = at;

@@ -4,7 +4,6 @@ use mathlib.Core.Path.{_≡_}
 use lib.ListN.{length, take}
 use borrow.Author.Needs.{needs}
 use Rattle.texts.proofs.Spelling.{same-more}
-use borrow.Author.Needs.{needs}
 use Rattle.texts.proofs.cursor.common.Statement.{statement}
 use Rattle.texts.proofs.cursor.common.Tie as tie
 

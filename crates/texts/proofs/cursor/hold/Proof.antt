@@ -6,8 +6,6 @@ use borrow.Author.Needs.{needs}
 use borrow.Author.Tests.{not-true, not-false}
 use Rattle.texts.specs.Bounds.{codePlaces}
 use Rattle.texts.proofs.Spelling.{Holding, holding-none, holding-more, holding-stops}
-use borrow.Author.Needs.{needs}
-use borrow.Author.Tests.{not-true, not-false}
 use Rattle.texts.proofs.cursor.hold.Statement.{statement}
 use Rattle.texts.proofs.cursor.hold.Tie as tie
 

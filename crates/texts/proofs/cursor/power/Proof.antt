@@ -5,7 +5,6 @@ use mathlib.Core.Path.{_≡_, refl, ap, _∙_}
 use lib.Dec.{lit≤}
 use borrow.Author.Needs.{needs}
 use Rattle.texts.proofs.Spelling.{power-more}
-use borrow.Author.Needs.{needs}
 use Rattle.texts.proofs.cursor.power.Statement.{statement}
 use Rattle.texts.proofs.cursor.power.Tie as tie
 

@@ -8,7 +8,6 @@ use borrow.Author.Needs.{needs}
 use borrow.Author.Tests.{not-true, not-false}
 use Rattle.texts.proofs.LawsLeaf.{digit-of}
 use Rattle.texts.proofs.Spelling.{Spelling, spelling-none, spelling-more, spelling-ends, spelling-large, spelling-whole, product-fits}
-use borrow.Author.Needs.{needs}
 use Rattle.texts.proofs.cursor.spell.Statement.{statement}
 use Rattle.texts.proofs.cursor.spell.Tie as tie
 

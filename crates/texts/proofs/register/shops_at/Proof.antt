@@ -5,7 +5,6 @@ use borrow.Author.Needs.{needs}
 use Rattle.texts.specs.Bounds.{mostShops}
 use Rattle.texts.specs.Register.{noListed, listedParts, partsListed, shopLine}
 use Rattle.texts.proofs.Reading.{Grouped, grouped-none, grouped-more, grouped-done, reads-of}
-use borrow.Author.Needs.{needs}
 use Rattle.texts.proofs.register.shops_at.Statement.{statement}
 use Rattle.texts.proofs.register.shops_at.Tie as tie
 

@@ -5,7 +5,6 @@ use borrow.Author.Needs.{needs}
 use Rattle.texts.specs.Bounds.{mostDeps}
 use Rattle.texts.specs.Slip.{noDep, depParts, partsDep, depLine}
 use Rattle.texts.proofs.Reading.{Grouped, grouped-none, grouped-more, grouped-done, reads-of}
-use borrow.Author.Needs.{needs}
 use Rattle.texts.proofs.slip.deps_at.Statement.{statement}
 use Rattle.texts.proofs.slip.deps_at.Tie as tie
 

@@ -4,7 +4,6 @@ use mathlib.Core.Path.{_≡_, ap}
 use borrow.Author.Needs.{needs}
 use Rattle.texts.proofs.Values.{length-mapped}
 use Rattle.replica.proofs.Steps.{Shifted, shifted-none, shifted-more, shifted-done}
-use borrow.Author.Needs.{needs}
 use Rattle.replica.proofs.record.Line.without_first.Statement.{statement}
 use Rattle.replica.proofs.record.Line.without_first.Tie as tie
 

@@ -9,7 +9,6 @@ use Rattle.replica.specs.declared.record.Replica.{Replica}
 use Rattle.replica.specs.Settle.{ready, waits, NoneReady}
 use Rattle.replica.proofs.Quiet.{fewer}
 use Rattle.replica.proofs.Going.{not-waiting, first-decides, none-more, Going, going-none, going-movable, going-line, going-fits, going-more, going-done, applied-is}
-use borrow.Author.Needs.{needs}
 use Rattle.replica.proofs.record.Replica.settle.Statement.{statement}
 use Rattle.replica.proofs.record.Replica.settle.Tie as tie
 

@@ -2,7 +2,6 @@
 use borrow.Author.Needs.{needs}
 use Rattle.replica.proofs.Issuing.{is-lawful}
 use Rattle.replica.proofs.Taking.{state-refused, room-refused, form-refused, slip-is-legal, take-late}
-use borrow.Author.Needs.{needs}
 use Rattle.replica.proofs.record.Replica.take.Statement.{statement}
 use Rattle.replica.proofs.record.Replica.take.Tie as tie
 

@@ -7,8 +7,6 @@ use Rattle.texts.proofs.Legal.{slip-legal}
 use Rattle.replica.specs.Take.{payerOf}
 use Rattle.replica.proofs.Parts.{parts}
 use Rattle.replica.proofs.Taking.{payer-place, shop-clear, check-refused, number-refused, full-refused, late-done, payer-sixteen, taken-fits, entered-lawful-so, entered-is}
-use Prim.Native.Nat.{_<_}
-use borrow.Author.Needs.{needs}
 use Rattle.replica.proofs.record.Replica.take_slip.Statement.{statement}
 use Rattle.replica.proofs.record.Replica.take_slip.Tie as tie
 
