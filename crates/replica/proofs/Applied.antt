@@ -112,7 +112,7 @@ module _ (self : Replica) (p : ℕ) (P : Parts self) (h : p < shopCount self) (e
   pub n16 : shopCount self ≤ 16
   n16 = register-legal (self .register) (P .register) .fits .most
 
-  some : 0 < lineAt self p .count
+  pub some : 0 < lineAt self p .count
   some = ready-some self p e
 
   pass : Passed (self .register) (slipAt self p 0)
@@ -157,13 +157,13 @@ module _ (self : Replica) (p : ℕ) (P : Parts self) (h : p < shopCount self) (e
       sum-more (shopCount self) (λ q. shopAt (apply self p) q .balance) mid a m below y (λ q d. ap (λ (s : Shop). s .balance) (adjust-other (paidAt self p) a q (adjust (payingAt self p) p (self .shops)) d)) in
       v ∙ sym u
 
-  line-payer : lineAt (apply self p) p ≡ withoutFirst (lineAt self p)
+  pub line-payer : lineAt (apply self p) p ≡ withoutFirst (lineAt self p)
   line-payer = line-first self p (omega (arith, P .linePlaces, n16))
 
   abbrev fits : Waiting → Bool
   fits w = zeroFrom 16 (eqb 0) (shopCount self) (w .needs)
 
-  next : (k : ℕ) → k + 1 < lineAt self p .count → waitingAt (apply self p) p k ≡ waitingAt self p (k + 1)
+  pub next : (k : ℕ) → k + 1 < lineAt self p .count → waitingAt (apply self p) p k ≡ waitingAt self p (k + 1)
   next k l =
       let z : Waiting = record { payer = 0; number = 0; payee = 0; amount = 0; needs = [] } in
       let L = P .lined p h in

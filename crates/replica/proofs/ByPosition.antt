@@ -50,7 +50,7 @@ from-each t (suc n) [] z h = refl
 from-each t (suc n) (x ∷ xs) z h = from-each t n xs z (λ k a b. h (suc k) (omega arith) (omega arith))
 
 -- all do: each passes
-each-from : {A : Type 0} (t : A → Bool) (n : ℕ) (xs : List A) (z : A) → allOf t (drop n xs) ≡ true → (k : ℕ) → n ≤ k → k < length xs → t (getD xs k z) ≡ true
+pub each-from : {A : Type 0} (t : A → Bool) (n : ℕ) (xs : List A) (z : A) → allOf t (drop n xs) ≡ true → (k : ℕ) → n ≤ k → k < length xs → t (getD xs k z) ≡ true
 unfolding allOf
 each-from t n [] z e k a b = absurd (omega arith)
 each-from t zero (x ∷ xs) z e k a b = all-at t (x ∷ xs) z k e b
@@ -127,7 +127,7 @@ module _ (r : Register) (R : RegisterLegal r) where
       ∙ both (code 58 .legal (getD (shopsOf r) p blank .code)) (six .legal (getD (shopsOf r) p blank .opening)) (all-at (shopLine .legal) (shopsOf r) blank p (R .fits .used) (omega (arith, used))) .0
 
   -- two shops have two codes
-  two-codes : (p q : ℕ) → p < r .count → q < r .count → (p ≡ q → ⊥) → sameCode (listedAt r p .code) (listedAt r q .code) ≡ false
+  pub two-codes : (p q : ℕ) → p < r .count → q < r .count → (p ≡ q → ⊥) → sameCode (listedAt r p .code) (listedAt r q .code) ≡ false
   two-codes p q h l d = go (sameCode (listedAt r p .code) (listedAt r q .code)) refl
     where
       go : (t : Bool) → sameCode (listedAt r p .code) (listedAt r q .code) ≡ t → sameCode (listedAt r p .code) (listedAt r q .code) ≡ false

@@ -25,7 +25,7 @@ use Rattle.replica.proofs.OneToOne.{below}
 use Rattle.replica.proofs.Parts.{Lined, Parts, parts, whole}
 use Rattle.replica.proofs.Opened.{map-drop}
 
-cleared : (self : Replica) (p : ℕ) → shopAt (issuing self) p ≡ unmarked (shopAt self p)
+pub cleared : (self : Replica) (p : ℕ) → shopAt (issuing self) p ≡ unmarked (shopAt self p)
 unfolding issuing
 cleared self p = List·getD-map unmarked (self .shops) p noShop
 
@@ -39,11 +39,11 @@ all-cleared (s ∷ l) h =
     let c = both (eqb (s .applied) 0) _ (b .1) in
     and (zeroShop (unmarked s)) _ (and _ _ (a .0) (and _ _ (b .0) (and _ _ (c .0) refl))) (all-cleared l (k .1))
 
-record Free (self : Replica) : Type 0 where
-  lawful : lawful self ≡ true
-  notUsedUp : eqb (ownShop self .applied) 999999 ≡ false
+pub record Free (self : Replica) : Type 0 where
+  pub lawful : lawful self ≡ true
+  pub notUsedUp : eqb (ownShop self .applied) 999999 ≡ false
 
-free : (self : Replica) (payee : List ℕ) (amount : ℕ) (buffer : List ℕ) → issueAnswer self payee amount buffer ≡ 0 → Free self
+pub free : (self : Replica) (payee : List ℕ) (amount : ℕ) (buffer : List ℕ) → issueAnswer self payee amount buffer ≡ 0 → Free self
 unfolding issueRows
 free self payee amount buffer e =
     let c13 = first-zero Meaning.state (not (lawful self)) _ (omega arith) e in
@@ -77,7 +77,7 @@ module _ (self : Replica) (P : Parts self) (h : eqb (ownShop self .applied) 9999
         mark = omega (arith, ap (λ (x : Shop). x .mark) c);
       }
 
-  issuing-parts : Parts (issuing self)
+  pub issuing-parts : Parts (issuing self)
   unfolding issuing
   issuing-parts =
       let o = own self in

@@ -24,3 +24,10 @@ pub mod Issuing
 pub mod Promises
 pub mod Kept
 pub mod ByPosition
+pub mod Only
+pub mod Orders
+pub mod Credit
+pub mod Reached
+pub mod Runs
+pub mod Demand
+pub mod Neither

@@ -43,11 +43,11 @@ zero-line : zeroLine noLine ≡ true
 unfolding allOf
 zero-line = refl
 
-fresh-shop : (r : Register) (p : ℕ) → shopAt (fresh r) p ≡ opening (listedAt r p)
+pub fresh-shop : (r : Register) (p : ℕ) → shopAt (fresh r) p ≡ opening (listedAt r p)
 unfolding fresh
 fresh-shop r p = List·getD-map opening (r .shops) p (record { code = record { digits = []; len = 0 }; opening = 0 })
 
-fresh-line : (r : Register) (p : ℕ) → p < 16 → lineAt (fresh r) p ≡ noLine
+pub fresh-line : (r : Register) (p : ℕ) → p < 16 → lineAt (fresh r) p ≡ noLine
 unfolding fresh
 fresh-line r p h = getD-replicate 16 p noLine (record { count = 0; slips = [] }) h
 

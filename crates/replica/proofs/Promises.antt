@@ -85,7 +85,7 @@ asks-same = asked-same
 
 -- ---- refusals
 
-take-answered : (self : Replica) (text list : List ℕ) → taken self text list .answer ≡ takeAnswer self text list
+pub take-answered : (self : Replica) (text list : List ℕ) → taken self text list .answer ≡ takeAnswer self text list
 unfolding taken
 take-answered self text list = answer-if _ self refl (takeAnswer self text list)
 
@@ -93,7 +93,7 @@ pub take-refusal-keeps : TakeRefusalKeeps
 unfolding taken takenList
 take-refusal-keeps self text list h = kept-if _ self _ list (takeAnswer self text list) (λ e. h (take-answered self text list ∙ e))
 
-issue-answered : (self : Replica) (payee : List ℕ) (amount : ℕ) (buffer : List ℕ) → issued self payee amount buffer .answer ≡ issueAnswer self payee amount buffer
+pub issue-answered : (self : Replica) (payee : List ℕ) (amount : ℕ) (buffer : List ℕ) → issued self payee amount buffer .answer ≡ issueAnswer self payee amount buffer
 unfolding issued
 issue-answered self payee amount buffer = answer-if _ self refl (issueAnswer self payee amount buffer)
 

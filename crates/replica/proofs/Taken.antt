@@ -58,30 +58,30 @@ module _ (self : Replica) (s : Slip) (P : Parts self) (Q : Passed (self .registe
   p : ℕ
   p = payerOf self s
 
-  h : payerOf self s < shopCount self
+  pub h : payerOf self s < shopCount self
   h = below (self .register) (s .payer) R (Q .payer)
 
   w : Waiting
   w = waitingOf (self .register) s
 
-  line-payer : lineAt (entered self s) (payerOf self s) ≡ withLast (lineAt self (payerOf self s)) (waitingOf (self .register) s)
+  pub line-payer : lineAt (entered self s) (payerOf self s) ≡ withLast (lineAt self (payerOf self s)) (waitingOf (self .register) s)
   unfolding entered
   line-payer = getD-set-same (self .lines) (payerOf self s) _ _ (omega (arith, P .linePlaces, R .fits .most, h))
 
-  line-other : (q : ℕ) → q ≢ payerOf self s → lineAt (entered self s) q ≡ lineAt self q
+  pub line-other : (q : ℕ) → q ≢ payerOf self s → lineAt (entered self s) q ≡ lineAt self q
   unfolding entered
   line-other q d = getD-set-other (self .lines) (payerOf self s) q _ _ d
 
-  payer : shopAt (entered self s) (payerOf self s) ≡ tookOne (shopAt self (payerOf self s))
+  pub payer : shopAt (entered self s) (payerOf self s) ≡ tookOne (shopAt self (payerOf self s))
   unfolding entered
   payer = adjust-same tookOne (payerOf self s) (self .shops) (omega (arith, P .shopPlaces, R .fits .most, h))
 
-  others : (q : ℕ) → q ≢ payerOf self s → shopAt (entered self s) q ≡ shopAt self q
+  pub others : (q : ℕ) → q ≢ payerOf self s → shopAt (entered self s) q ≡ shopAt self q
   unfolding entered
   others q d = adjust-other tookOne (payerOf self s) q (self .shops) d
 
   -- a number that entering leaves alone
-  alone : (f : Shop → ℕ) → ((x : Shop) → f (tookOne x) ≡ f x) → (q : ℕ) → f (shopAt (entered self s) q) ≡ f (shopAt self q)
+  pub alone : (f : Shop → ℕ) → ((x : Shop) → f (tookOne x) ≡ f x) → (q : ℕ) → f (shopAt (entered self s) q) ≡ f (shopAt self q)
   alone f k q = either q (payerOf self s)
       (λ j. subst (λ (x : ℕ). f (shopAt (entered self s) x) ≡ f (shopAt self x)) (sym j) (ap f payer ∙ k (shopAt self (payerOf self s))))
       (λ j. ap f (others q j))
@@ -92,7 +92,7 @@ module _ (self : Replica) (s : Slip) (P : Parts self) (Q : Passed (self .registe
   abbrev blank : Waiting
   blank = record { payer = 0; number = 0; payee = 0; amount = 0; needs = [] }
 
-  last : (k : ℕ) → k ≡ lineAt self (payerOf self s) .count → waitingAt (entered self s) (payerOf self s) k ≡ waitingOf (self .register) s
+  pub last : (k : ℕ) → k ≡ lineAt self (payerOf self s) .count → waitingAt (entered self s) (payerOf self s) k ≡ waitingOf (self .register) s
   last k e =
       let L = P .lined (payerOf self s) h in
       let c = lineAt self (payerOf self s) .count in
@@ -100,7 +100,7 @@ module _ (self : Replica) (s : Slip) (P : Parts self) (Q : Passed (self .registe
       ∙ ap (λ (x : Line). atPlace x c) line-payer
       ∙ getD-set-same (lineAt self (payerOf self s) .slips) c (waitingOf (self .register) s) blank (omega (arith, L .places))
 
-  old : (k : ℕ) → k < lineAt self (payerOf self s) .count → waitingAt (entered self s) (payerOf self s) k ≡ waitingAt self (payerOf self s) k
+  pub old : (k : ℕ) → k < lineAt self (payerOf self s) .count → waitingAt (entered self s) (payerOf self s) k ≡ waitingAt self (payerOf self s) k
   old k l =
       let c = lineAt self (payerOf self s) .count in
       ap (λ (x : Line). atPlace x k) line-payer ∙ getD-set-other (lineAt self (payerOf self s) .slips) c k (waitingOf (self .register) s) blank (λ i. omega arith)

@@ -11,4 +11,6 @@ pub mod Issue
 pub mod Balance
 pub mod Inside
 pub mod Promises
+pub mod Calls
+pub mod Demand
 pub mod Trials
