@@ -31,3 +31,8 @@ pub mod Reached
 pub mod Runs
 pub mod Demand
 pub mod Neither
+pub mod Fronts
+pub mod Lasting
+pub mod ForEver
+pub mod Histories
+pub mod AssetTransfer

@@ -50,7 +50,7 @@ no-times : (q : ℕ) → times q [] ≡ 0
 unfolding times
 no-times q = refl
 
-rises : {self end : Replica} {list : List ℕ} → Settles self list end → lawful self ≡ true → (q : ℕ) → shopAt end q .applied ≡ shopAt self q .applied + times q list
+pub rises : {self end : Replica} {list : List ℕ} → Settles self list end → lawful self ≡ true → (q : ℕ) → shopAt end q .applied ≡ shopAt self q .applied + times q list
 rises (stop N) l q = omega (arith, no-times q)
 rises (step {self} {end} {p} {list} h N r t) l q =
     let P = parts self l in

@@ -113,28 +113,28 @@ module _ (self : Replica) (text list : List ℕ) (lines : Lines) where
   unfolding tookIn
   took-none n e = let a : taken self text list .answer ≡ suc n = take-answered self text list ∙ e in rw (a, tookIn)
 
-  applied-along : takeAnswer self text list ≡ 0 → applied self (take text list) lines ≡ appliedAlong (entered self (slipFrom text)) (applying (entered self (slipFrom text))) lines
+  pub applied-along : takeAnswer self text list ≡ 0 → applied self (take text list) lines ≡ appliedAlong (entered self (slipFrom text)) (applying (entered self (slipFrom text))) lines
   unfolding applied
   applied-along e = let a : taken self text list .answer ≡ 0 = take-answered self text list ∙ e in rw (a, applied)
 
-  applied-none : (n : ℕ) → takeAnswer self text list ≡ suc n → applied self (take text list) lines ≡ lines
+  pub applied-none : (n : ℕ) → takeAnswer self text list ≡ suc n → applied self (take text list) lines ≡ lines
   unfolding applied
   applied-none n e = let a : taken self text list .answer ≡ suc n = take-answered self text list ∙ e in rw (a, applied)
 
 -- the state that a take gives back
-took-settled : (self : Replica) (text list : List ℕ) → takeAnswer self text list ≡ 0 → taken self text list .replica ≡ settled (entered self (slipFrom text))
+pub took-settled : (self : Replica) (text list : List ℕ) → takeAnswer self text list ≡ 0 → taken self text list .replica ≡ settled (entered self (slipFrom text))
 unfolding taken
 took-settled self text list e = rw (e, taken)
 
-took-same : (self : Replica) (text list : List ℕ) (n : ℕ) → takeAnswer self text list ≡ suc n → taken self text list .replica ≡ self
+pub took-same : (self : Replica) (text list : List ℕ) (n : ℕ) → takeAnswer self text list ≡ suc n → taken self text list .replica ≡ self
 unfolding taken
 took-same self text list n e = rw (e, taken)
 
-issued-issuing : (self : Replica) (payee : List ℕ) (amount : ℕ) (buffer : List ℕ) → issueAnswer self payee amount buffer ≡ 0 → issued self payee amount buffer .replica ≡ issuing self
+pub issued-issuing : (self : Replica) (payee : List ℕ) (amount : ℕ) (buffer : List ℕ) → issueAnswer self payee amount buffer ≡ 0 → issued self payee amount buffer .replica ≡ issuing self
 unfolding issued
 issued-issuing self payee amount buffer e = rw (e, issued)
 
-issued-same : (self : Replica) (payee : List ℕ) (amount : ℕ) (buffer : List ℕ) (n : ℕ) → issueAnswer self payee amount buffer ≡ suc n → issued self payee amount buffer .replica ≡ self
+pub issued-same : (self : Replica) (payee : List ℕ) (amount : ℕ) (buffer : List ℕ) (n : ℕ) → issueAnswer self payee amount buffer ≡ suc n → issued self payee amount buffer .replica ≡ self
 unfolding issued
 issued-same self payee amount buffer n e = rw (e, issued)
 

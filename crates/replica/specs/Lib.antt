@@ -13,4 +13,6 @@ pub mod Inside
 pub mod Promises
 pub mod Calls
 pub mod Demand
+pub mod Lasting
+pub mod AssetTransfer
 pub mod Trials
