@@ -18,13 +18,13 @@ use Rattle.texts.proofs.Legal.{code-same, RegisterLegal}
 use Rattle.replica.specs.declared.record.Waiting.{Waiting}
 use Rattle.replica.specs.declared.record.Replica.{Replica}
 use Rattle.replica.specs.Record.{listedAt, shopCount, shopAt, lineAt, every}
-use Rattle.replica.specs.Slips.{numberFor, waitingOf, slipOf, slipAt}
+use Rattle.replica.specs.Slips.{numberFor, waitingOf, slipOf, slipAt, firsts, waitingSlips}
 use Rattle.replica.specs.State.{lawful}
 use Rattle.replica.specs.Settle.{firstWaiting, readyA, readyB, readyC, ready}
 use Rattle.replica.specs.Calls.{Lines}
 use Rattle.replica.specs.Demand.{paidBy, receivedBy}
 use Rattle.replica.proofs.Sums.{every-at, at-every}
-use Rattle.replica.proofs.Only.{every-same, firsts, firsts-some, length-firsts, same-rest}
+use Rattle.replica.proofs.Only.{every-same, firsts-some, length-firsts, same-rest}
 use Rattle.replica.proofs.Orders.{Trade, total, got, spent, Enabled}
 use Rattle.replica.proofs.ByPosition.{two-codes}
 use Rattle.replica.proofs.Back.{waiting-held}
@@ -107,9 +107,6 @@ brings-others r w R h q l d = rw (two-codes r R (w .payee) q h l (λ e. d (sym e
 
 -- ---- the slips that wait for shop p
 
-abbrev pub queue : Replica → ℕ → List Slip
-queue self p = firsts (lineAt self p .count) (slipAt self p)
-
 -- What is known of a state with the slips s that it has applied.
 pub record Counted (self : Replica) (s : Lines) : Type 0 where
   pub lawful : lawful self ≡ true
@@ -126,7 +123,7 @@ module _ (self : Replica) (s : Lines) (C : Counted self s) (p : ℕ) (h : p < sh
       every-same (shopCount self) _ _ (λ q l. ap₂ (λ (ns : List ℕ) (a : ℕ). leb (getD ns q 0) a) e (C .applied q l))
 
   -- what is ready may be applied
-  pub enabled : (t : Lines) → s p ++ queue self p ≡ t p → ready self p ≡ true → Enabled (tradeOf self) t s p (slipAt self p 0)
+  pub enabled : (t : Lines) → s p ++ waitingSlips self p ≡ t p → ready self p ≡ true → Enabled (tradeOf self) t s p (slipAt self p 0)
   unfolding ready slipOf costs
   enabled t line e =
       let some = ready-some self p e in
@@ -144,10 +141,10 @@ module _ (self : Replica) (s : Lines) (C : Counted self s) (p : ℕ) (h : p < sh
       }
 
   -- and back
-  pub ready-of : (t : Lines) (x : Slip) → s p ++ queue self p ≡ t p → Enabled (tradeOf self) t s p x → ready self p ≡ true
+  pub ready-of : (t : Lines) (x : Slip) → s p ++ waitingSlips self p ≡ t p → Enabled (tradeOf self) t s p x → ready self p ≡ true
   unfolding ready slipOf costs
   ready-of t x line en =
-      let q : queue self p ≡ x ∷ en .rest = same-rest (s p) _ _ (line ∙ sym (en .next)) in
+      let q : waitingSlips self p ≡ x ∷ en .rest = same-rest (s p) _ _ (line ∙ sym (en .next)) in
       let some : 0 < lineAt self p .count = omega (arith, length-firsts (lineAt self p .count) (slipAt self p), ap length q) in
       let f = firsts-some (lineAt self p .count) (slipAt self p) some in
       let i : x ≡ slipAt self p 0 = cc in

@@ -4,7 +4,7 @@ use mathlib.Core.Bool.{true}
 use mathlib.Core.List.{List, [], _++_, append-nil}
 use Prim.Native.Nat.{ℕ, _+_, _≤_, _<_}
 use native.Mathlib.Omega.{arith}
-use lib.ListN.{length, getD, replicate}
+use lib.ListN.{length, getD, replicate, length-append}
 use lib.Seq.{ext-getD}
 use lib.Dec.{eqb}
 use native.Mathlib.Decide.{decLt}
@@ -16,17 +16,19 @@ use Rattle.texts.specs.declared.slip.Slip.{Slip}
 use Rattle.texts.proofs.Steps.{both, all-zeros}
 use Rattle.replica.specs.declared.record.Waiting.{Waiting}
 use Rattle.replica.specs.Record.{noWaiting, listedAt, shopCount, shopAt, lineAt, waitingAt, sumTo}
-use Rattle.replica.specs.Slips.{waitingOf, slipAt}
+use Rattle.replica.specs.Slips.{waitingOf, slipAt, firsts, waitingSlips}
 use Rattle.replica.specs.State.{zeroWaiting}
 use Rattle.replica.specs.Calls.{noSlips}
-use Rattle.replica.specs.Demand.{Terminal, start, now, tookOf, appliedOf, SameShops, paidBy, receivedBy, ArrivalOrderDoesNotMatter, SameSlipsSameStates, AppliedAreFirst, Ledger, Conserved}
+use Rattle.replica.specs.Demand.{Terminal, start, now, tookOf, appliedOf, SameShops, paidBy, receivedBy, ArrivalOrderDoesNotMatter, SameSlipsSameStates, AppliedAreFirst, Ledger, LedgerFits, Conserved}
 use Rattle.replica.proofs.Sums.{sum-same}
-use Rattle.replica.proofs.Only.{firsts, length-firsts, firsts-at, same-rest, begins-both}
+use Rattle.replica.proofs.Only.{length-firsts, firsts-at, same-rest, begins-both}
 use Rattle.replica.proofs.Orders.{total, got, spent, Settled, Least}
-use Rattle.replica.proofs.Credit.{brings, stock, trade, tradeOf, paid-total, received-total, queue}
+use Rattle.replica.proofs.Credit.{brings, stock, trade, tradeOf, paid-total, received-total}
 use Rattle.replica.proofs.Reached.{Rest, rest-settled}
 use Rattle.replica.proofs.Runs.{opened-rest, run-rest, run-register}
 use Rattle.replica.proofs.Parts.{Lined, parts}
+use Rattle.replica.proofs.Most.{balance-most}
+use Rattle.replica.proofs.Amounts.{paid-append, taken-most}
 use Rattle.replica.proofs.Back.{waiting-held}
 use Rattle.replica.proofs.Kept.{waiting-none}
 use Rattle.replica.proofs.ByPosition.{each-from}
@@ -51,11 +53,11 @@ module _ (a : Terminal) where
   settled = subst (λ (r : Register). Settled (trade (r .count) (r .shops)) (tookOf a) (appliedOf a)) register (rest-settled (now a) (tookOf a) (appliedOf a) at-rest)
 
   -- what was taken in is applied, or waits
-  line : (p : ℕ) → p < shopCount (start a) → appliedOf a p ++ queue (now a) p ≡ tookOf a p
+  line : (p : ℕ) → p < shopCount (start a) → appliedOf a p ++ waitingSlips (now a) p ≡ tookOf a p
   line p h = at-rest .inv .line p (inside p h)
 
 pub applied-are-first : AppliedAreFirst
-applied-are-first a p h = (queue (now a) p, line a p h)
+applied-are-first a p h = (waitingSlips (now a) p, line a p h)
 
 pub ledger : Ledger
 unfolding spent got stock
@@ -69,6 +71,28 @@ ledger a p h =
       arith,
       paid-total (s p),
       sum-same (r .count) (λ q. receivedBy (listedAt r p .code) (s q)) (λ q. total (brings (r .shops) p 0) (s q)) (λ q _. received-total r p (s q)),
+    )
+
+-- at most 999,999 slips of at most 999,999 each, and a balance of at most 15,999,984
+pub ledger-fits : LedgerFits
+ledger-fits a p h =
+    let C = at-rest a .inv .counted in
+    let L = parts (now a) (C .lawful) .lined p (inside a p h) in
+    let s = appliedOf a p in
+    let w = waitingSlips (now a) p in
+    let l = line a p h in
+    omega (
+      arith,
+      balance-most (now a) (C .lawful) p (inside a p h),
+      taken-most (start a) (a .calls) p,
+      paid-append s w,
+      ap paidBy l,
+      length-append s w,
+      ap length l,
+      C .applied p (inside a p h),
+      length-firsts (lineAt (now a) p .count) (slipAt (now a) p),
+      L .taken,
+      L .most,
     )
 
 pub conserved : Conserved
@@ -114,9 +138,9 @@ module _ (a b : Terminal) (same : SameShops a b) (took : (p : ℕ) → p < shopC
       (arrival-order-does-not-matter a b same (λ q l. ([], append-nil (tookOf a q) ∙ took q l)) p h)
       (arrival-order-does-not-matter b a record { count = sym (same .count); shops = sym (same .shops) } (λ q l. ([], append-nil (tookOf b q) ∙ sym (took q (back q l)))) p (over p h))
 
-  same-queue : (p : ℕ) → p < shopCount (start a) → queue (now a) p ≡ queue (now b) p
+  same-queue : (p : ℕ) → p < shopCount (start a) → waitingSlips (now a) p ≡ waitingSlips (now b) p
   same-queue p h =
-      same-rest (appliedOf a p) _ _ (line a p h ∙ took p h ∙ sym (line b p (over p h)) ∙ ap (λ (l : List Slip). l ++ queue (now b) p) (sym (same-applied p h)))
+      same-rest (appliedOf a p) _ _ (line a p h ∙ took p h ∙ sym (line b p (over p h)) ∙ ap (λ (l : List Slip). l ++ waitingSlips (now b) p) (sym (same-applied p h)))
 
   same-count : (p : ℕ) → p < shopCount (start a) → lineAt (now a) p .count ≡ lineAt (now b) p .count
   same-count p h =

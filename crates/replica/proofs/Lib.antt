@@ -29,10 +29,12 @@ pub mod Orders
 pub mod Credit
 pub mod Reached
 pub mod Runs
+pub mod Amounts
 pub mod Demand
 pub mod Neither
 pub mod Fronts
 pub mod Lasting
+pub mod AnyOrder
 pub mod ForEver
 pub mod Histories
 pub mod AssetTransfer

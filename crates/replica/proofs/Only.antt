@@ -9,6 +9,7 @@ use lib.ListN.{length, length-append}
 use lib.Dec.{eqb}
 use borrow.Author.Tests.{eq-eqb, ne-eqb}
 use Rattle.replica.specs.Record.{sumTo, every}
+use Rattle.replica.specs.Slips.{firsts}
 
 -- ---- w at position p, and 0 elsewhere
 
@@ -42,10 +43,6 @@ every-same (suc n) f g h = ap₂ (λ x y. x && y) (every-same n f g (λ q l. h q
 -- ---- the first k of a sequence
 
 module _ {A : Type 0} where
-  unfoldable pub firsts : ℕ → (ℕ → A) → List A
-  firsts zero f = []
-  firsts (suc k) f = f 0 ∷ firsts k (λ i. f (i + 1))
-
   pub firsts-same : (k : ℕ) (f g : ℕ → A) → ((i : ℕ) → i < k → f i ≡ g i) → firsts k f ≡ firsts k g
   unfolding firsts
   firsts-same zero f g h = refl

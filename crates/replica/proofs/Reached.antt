@@ -14,16 +14,16 @@ use Rattle.replica.specs.declared.record.Shop.{Shop}
 use Rattle.replica.specs.declared.record.Line.{Line}
 use Rattle.replica.specs.declared.record.Replica.{Replica}
 use Rattle.replica.specs.Record.{shopCount, shopAt, lineAt}
-use Rattle.replica.specs.Slips.{slipOf, slipAt}
+use Rattle.replica.specs.Slips.{slipOf, slipAt, firsts, waitingSlips}
 use Rattle.replica.specs.Checks.{passes}
 use Rattle.replica.specs.State.{lawful}
 use Rattle.replica.specs.Settle.{firstWaiting, ready, apply, Settles, stop, step}
 use Rattle.replica.specs.Take.{payerOf, entered}
 use Rattle.replica.specs.Calls.{Lines, noted, appliedAlong}
 use Rattle.replica.proofs.Sums.{either}
-use Rattle.replica.proofs.Only.{only, only-self, only-other, firsts, firsts-same, firsts-some, firsts-last}
+use Rattle.replica.proofs.Only.{only, only-self, only-other, firsts-same, firsts-some, firsts-last}
 use Rattle.replica.proofs.Orders.{Settled, Least, least-grow, least-step, got-step, spent-step}
-use Rattle.replica.proofs.Credit.{costs, brings, tradeOf, costs-amount, brings-payee, brings-others, queue, Counted, enabled, ready-of}
+use Rattle.replica.proofs.Credit.{costs, brings, tradeOf, costs-amount, brings-payee, brings-others, Counted, enabled, ready-of}
 use Rattle.replica.proofs.Parts.{Parts, parts, whole}
 use Rattle.replica.proofs.OneToOne.{Passed, one-to-one}
 use Rattle.replica.proofs.Shops.{is-out}
@@ -50,7 +50,7 @@ noted-prefix p x t q = either q p
 
 pub record Inv (self : Replica) (t s : Lines) : Type 0 where
   pub counted : Counted self s
-  pub line : (p : ℕ) → p < shopCount self → s p ++ queue self p ≡ t p
+  pub line : (p : ℕ) → p < shopCount self → s p ++ waitingSlips self p ≡ t p
   pub least : Least (tradeOf self) t s
 
 -- applying moves the amount
@@ -80,7 +80,7 @@ module _ (self : Replica) (p : ℕ) (P : Parts self) (h : p < shopCount self) (e
       (λ j. omega (arith, ap (λ (s : Shop). s .balance) (is-out self p (other self p P h e) q d j), only-other p (costs 0 x) q d, brings-others r w R to q l j)))
 
   -- the first slip leaves the line
-  queue-less : x ∷ queue (apply self p) p ≡ queue self p
+  queue-less : x ∷ waitingSlips (apply self p) p ≡ waitingSlips self p
   unfolding apply
   queue-less =
       let n = lineAt self p .count in
@@ -91,7 +91,7 @@ module _ (self : Replica) (p : ℕ) (P : Parts self) (h : p < shopCount self) (e
       ∙ firsts-same (n - 1) (slipAt (apply self p) p) (λ k. slipAt self p (k + 1)) (λ k l. ap (slipOf (self .register)) (next self p P h e k (omega arith))))
       ∙ sym (firsts-some n (slipAt self p) some)
 
-  queue-same : (q : ℕ) → q ≢ p → queue (apply self p) q ≡ queue self q
+  queue-same : (q : ℕ) → q ≢ p → waitingSlips (apply self p) q ≡ waitingSlips self q
   unfolding apply
   queue-same q d = ap (λ (x : Line). firsts (x .count) (λ k. slipOf (self .register) (atPlace x k))) (line-other self p q d)
 
@@ -119,9 +119,9 @@ apply-inv self t s p I h e =
         );
       };
       line = λ q l. either q p
-          (λ j. subst (λ (i : ℕ). s′ i ++ queue (apply self p) i ≡ t i) (sym j)
-          (ap (λ (z : List Slip). z ++ queue (apply self p) p) (noted-here p x s) ∙ append-assoc (s p) (x ∷ []) (queue (apply self p) p) ∙ ap (λ (z : List Slip). s p ++ z) (queue-less self p P h e) ∙ I .line p h))
-          (λ j. ap (λ (z : List Slip). z ++ queue (apply self p) q) (noted-there p x s q j) ∙ ap (λ (z : List Slip). s q ++ z) (queue-same self p P h e q j) ∙ I .line q l);
+          (λ j. subst (λ (i : ℕ). s′ i ++ waitingSlips (apply self p) i ≡ t i) (sym j)
+          (ap (λ (z : List Slip). z ++ waitingSlips (apply self p) p) (noted-here p x s) ∙ append-assoc (s p) (x ∷ []) (waitingSlips (apply self p) p) ∙ ap (λ (z : List Slip). s p ++ z) (queue-less self p P h e) ∙ I .line p h))
+          (λ j. ap (λ (z : List Slip). z ++ waitingSlips (apply self p) q) (noted-there p x s q j) ∙ ap (λ (z : List Slip). s q ++ z) (queue-same self p P h e q j) ∙ I .line q l);
       least = least-step (tradeOf self) t s s′ p x (I .least) en (noted-here p x s) (noted-there p x s);
     }
 
@@ -152,7 +152,7 @@ rest-settled self t s R p x en =
 
 module _ (self : Replica) (x : Slip) (P : Parts self) (Q : Passed (self .register) x) (ok : passes (self .register) x ≡ true)
     (number : x .number ≡ shopAt self (payerOf self x) .taken + 1) (room : lineAt self (payerOf self x) .count < 8) where
-  queue-more : queue (entered self x) (payerOf self x) ≡ queue self (payerOf self x) ++ (x ∷ [])
+  queue-more : waitingSlips (entered self x) (payerOf self x) ≡ waitingSlips self (payerOf self x) ++ (x ∷ [])
   unfolding entered
   queue-more =
       let r = self .register in
@@ -161,9 +161,9 @@ module _ (self : Replica) (x : Slip) (P : Parts self) (Q : Passed (self .registe
       ap (λ (l : Line). firsts (l .count) (slipAt (entered self x) p)) (took.line-payer self x P Q ok number room)
       ∙ firsts-last n (slipAt (entered self x) p)
       ∙ ap (λ (l : List Slip). l ++ (slipAt (entered self x) p n ∷ [])) (firsts-same n (slipAt (entered self x) p) (slipAt self p) (λ k l. ap (slipOf r) (took.old self x P Q ok number room k l)))
-      ∙ ap (λ (y : Slip). queue self p ++ (y ∷ [])) (ap (slipOf r) (took.last self x P Q ok number room n refl) ∙ one-to-one r x (register-legal r (P .register)) Q)
+      ∙ ap (λ (y : Slip). waitingSlips self p ++ (y ∷ [])) (ap (slipOf r) (took.last self x P Q ok number room n refl) ∙ one-to-one r x (register-legal r (P .register)) Q)
 
-  queue-others : (q : ℕ) → q ≢ payerOf self x → queue (entered self x) q ≡ queue self q
+  queue-others : (q : ℕ) → q ≢ payerOf self x → waitingSlips (entered self x) q ≡ waitingSlips self q
   unfolding entered
   queue-others q d = ap (λ (l : Line). firsts (l .count) (λ k. slipOf (self .register) (atPlace l k))) (took.line-other self x P Q ok number room q d)
 
@@ -180,8 +180,8 @@ module _ (self : Replica) (x : Slip) (P : Parts self) (Q : Passed (self .registe
           holds = λ q l. omega (arith, C .holds q l, took.alone self x P Q ok number room (λ a. a .balance) (λ _. refl) q);
         };
         line = λ q l. either q p
-            (λ j. subst (λ (i : ℕ). s i ++ queue (entered self x) i ≡ noted p x t i) (sym j)
-            (ap (λ (z : List Slip). s p ++ z) queue-more ∙ sym (append-assoc (s p) (queue self p) (x ∷ [])) ∙ ap (λ (z : List Slip). z ++ (x ∷ [])) (I .line p here) ∙ sym (noted-here p x t)))
+            (λ j. subst (λ (i : ℕ). s i ++ waitingSlips (entered self x) i ≡ noted p x t i) (sym j)
+            (ap (λ (z : List Slip). s p ++ z) queue-more ∙ sym (append-assoc (s p) (waitingSlips self p) (x ∷ [])) ∙ ap (λ (z : List Slip). z ++ (x ∷ [])) (I .line p here) ∙ sym (noted-here p x t)))
             (λ j. ap (λ (z : List Slip). s q ++ z) (queue-others q j) ∙ I .line q l ∙ sym (noted-there p x t q j));
         least = least-grow (tradeOf self) t (noted p x t) s (λ q l. noted-prefix p x t q) (I .least);
       }

@@ -13,7 +13,7 @@ use Rattle.replica.specs.declared.record.Shop.{Shop}
 use Rattle.replica.specs.declared.record.Line.{Line}
 use Rattle.replica.specs.declared.record.Replica.{Replica}
 use Rattle.replica.specs.Record.{shopCount, shopAt, lineAt}
-use Rattle.replica.specs.Slips.{slipAt}
+use Rattle.replica.specs.Slips.{slipAt, firsts}
 use Rattle.replica.specs.Checks.{passes}
 use Rattle.replica.specs.State.{lawful}
 use Rattle.replica.specs.Settle.{firstWaiting, ready, settled, applying}
@@ -21,7 +21,7 @@ use Rattle.replica.specs.Open.{fresh, opened}
 use Rattle.replica.specs.Take.{slipFrom, payerOf, takeAnswer, entered, taken}
 use Rattle.replica.specs.Issue.{issueAnswer, issuing, issued}
 use Rattle.replica.specs.Calls.{Call, take, issue, balance, call, after, end, Lines, noSlips, noted, tookIn, applied, appliedAlong, takenFrom, appliedFrom}
-use Rattle.replica.proofs.Only.{every-same, sum-zero, firsts}
+use Rattle.replica.proofs.Only.{every-same, sum-zero}
 use Rattle.replica.proofs.Orders.{total, got, spent, least-start}
 use Rattle.replica.proofs.Credit.{stock, tradeOf}
 use Rattle.replica.proofs.Reached.{Inv, Rest, enter-inv, settled-rest, settled-register}
@@ -109,7 +109,7 @@ module _ (self : Replica) (text list : List ℕ) (lines : Lines) where
   unfolding tookIn
   took-noted e = let a : taken self text list .answer ≡ 0 = take-answered self text list ∙ e in rw (a, tookIn)
 
-  took-none : (n : ℕ) → takeAnswer self text list ≡ suc n → tookIn self (take text list) lines ≡ lines
+  pub took-none : (n : ℕ) → takeAnswer self text list ≡ suc n → tookIn self (take text list) lines ≡ lines
   unfolding tookIn
   took-none n e = let a : taken self text list .answer ≡ suc n = take-answered self text list ∙ e in rw (a, tookIn)
 

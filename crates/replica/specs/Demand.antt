@@ -5,7 +5,7 @@
 -- replica took in and applied, shop by shop.
 use mathlib.Core.Path.{_≡_}
 use mathlib.Core.List.{List, [], _∷_, _++_}
-use Prim.Native.Nat.{ℕ, _+_, _<_}
+use Prim.Native.Nat.{ℕ, _+_, _<_, _^_}
 use mathlib.Core.Bool.{true, false}
 use Rattle.texts.specs.Code.{sameCode}
 use Rattle.texts.specs.declared.code.Code.{Code}
@@ -82,6 +82,10 @@ Ledger =
     (a : Terminal) (p : ℕ) → p < shopCount (start a)
     → shopAt (now a) p .balance + paidBy (appliedOf a p)
     ≡ listedAt (start a .register) p .opening + sumTo (shopCount (start a)) (λ q. receivedBy (listedAt (start a .register) p .code) (appliedOf a q))
+
+-- Both sides of it, which are equal, are numbers of 64 bits.
+abbrev pub LedgerFits : Type 0
+LedgerFits = (a : Terminal) (p : ℕ) → p < shopCount (start a) → shopAt (now a) p .balance + paidBy (appliedOf a p) < 2 ^ 64
 
 -- "balances add up to the opening credit"
 abbrev pub Conserved : Type 0

@@ -13,7 +13,7 @@ use Rattle.replica.specs.Record.{shopCount, shopAt, lineAt, waitingAt}
 use Rattle.replica.specs.Slips.{waitingOf, slipOf, slipAt}
 use Rattle.replica.specs.Checks.{passes}
 use Rattle.replica.specs.State.{lawful}
-use Rattle.replica.specs.Settle.{ready, settled, applying}
+use Rattle.replica.specs.Settle.{ready, apply, NoneReady, settled, applying}
 use Rattle.replica.specs.Open.{opened}
 use Rattle.replica.specs.Take.{slipFrom, payerOf, taken, takenList}
 use Rattle.replica.specs.Issue.{issued, issuedBuffer}
@@ -33,6 +33,16 @@ times q (p ∷ list) = elim (eqb p q) [ true ↦ suc (times q list) | false ↦ 
 -- The listed positions are the rise in applied numbers, shop by shop.
 abbrev pub RisesAsListed : Type 0
 RisesAsListed = (self : Replica) → lawful self ≡ true → (q : ℕ) → q < shopCount self → shopAt (settled self) q .applied ≡ shopAt self q .applied + times q (applying self)
+
+-- Slips applied in any order, each ready at its time.
+pub data Applies : Replica → List ℕ → Replica → Type 0 where
+  none : {self : Replica} → Applies self [] self
+  next : {self end : Replica} {p : ℕ} {list : List ℕ} → p < shopCount self → ready self p ≡ true → Applies (apply self p) list end → Applies self (p ∷ list) end
+
+-- Whichever order it was, where nothing is ready at the end the end is settling's.
+abbrev pub AnyOrderEndsSo : Type 0
+AnyOrderEndsSo =
+    (self end : Replica) (list : List ℕ) → lawful self ≡ true → Applies self list end → NoneReady end (shopCount end) → end ≡ settled self
 
 -- ---- the state rule is kept
 

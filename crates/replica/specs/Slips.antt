@@ -1,7 +1,7 @@
 -- A waiting slip by position and the slip itself: "dependencies are written as one number per shop".
 use mathlib.Core.Bool.{true, false}
 use mathlib.Core.List.{List, [], _∷_, _++_, map}
-use Prim.Native.Nat.{ℕ, zero, suc, _-_}
+use Prim.Native.Nat.{ℕ, zero, suc, _+_, _-_}
 use lib.ListN.{length, replicate}
 use Rattle.texts.specs.Bounds.{mostDeps}
 use Rattle.texts.specs.Code.{sameCode}
@@ -14,7 +14,7 @@ use Rattle.texts.specs.declared.slip.Dep.{Dep}
 use Rattle.texts.specs.declared.slip.Slip.{Slip}
 use Rattle.replica.specs.declared.record.Waiting.{Waiting}
 use Rattle.replica.specs.declared.record.Replica.{Replica}
-use Rattle.replica.specs.Record.{listedAt, waitingAt}
+use Rattle.replica.specs.Record.{listedAt, lineAt, waitingAt}
 
 -- ---- from the slip
 
@@ -54,3 +54,11 @@ slipOf r w =
 -- The slip at place k of the line of shop p.
 abbrev pub slipAt : Replica → ℕ → ℕ → Slip
 slipAt self p k = slipOf (self .register) (waitingAt self p k)
+
+-- The slips that wait for shop p, first to last.
+unfoldable pub firsts : {A : Type 0} → ℕ → (ℕ → A) → List A
+firsts zero f = []
+firsts (suc k) f = f 0 ∷ firsts k (λ i. f (i + 1))
+
+abbrev pub waitingSlips : Replica → ℕ → List Slip
+waitingSlips self p = firsts (lineAt self p .count) (slipAt self p)
