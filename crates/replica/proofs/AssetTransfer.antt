@@ -39,7 +39,8 @@ use Rattle.replica.proofs.Opened.{fresh-shop, opened-lawful}
 use Rattle.replica.proofs.Taken.{alone, accepted, entered-lawful, taken-lawful}
 use Rattle.replica.proofs.Issued.{cleared, issued-lawful, asked-same}
 use Rattle.replica.proofs.Promises.{take-answered}
-use Rattle.replica.proofs.Runs.{applied-along, applied-none, took-settled, took-same, issued-issuing, issued-same, call-register, run-register}
+use Rattle.replica.proofs.Keeping.{took-settled, took-same, issued-issuing, issued-same}
+use Rattle.replica.proofs.Runs.{applied-along, applied-none, call-register, run-register}
 use Rattle.replica.proofs.Histories.{legal-from, legal-append}
 
 -- ---- what a take applied

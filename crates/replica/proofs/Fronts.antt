@@ -82,7 +82,7 @@ issue-front self p s = record { some = s; front = record { applied = ap (λ (x :
 
 -- ---- ready stays ready
 
-ready-number : (self : Replica) (p : ℕ) → ready self p ≡ true → firstWaiting self p .number ≡ shopAt self p .applied + 1
+pub ready-number : (self : Replica) (p : ℕ) → ready self p ≡ true → firstWaiting self p .number ≡ shopAt self p .applied + 1
 unfolding ready
 ready-number self p e = eqb-true _ _ (both (readyA self p) _ (both (ltb 0 (lineAt self p .count)) _ e .1) .0)
 

@@ -2,11 +2,11 @@
 use mathlib.Core.Path.{_≡_, refl, sym, ap, _∙_}
 use mathlib.Core.Bool.{true, false, not, _||_}
 use mathlib.Core.List.{List, [], _∷_, map}
-use Prim.Native.Nat.{ℕ, zero, suc, _+_, _<_}
+use Prim.Native.Nat.{ℕ, zero, suc, _+_, _≤_, _<_}
 use native.Mathlib.Omega.{arith}
 use lib.ListN.{length, drop, length-map, List·getD-map}
 use lib.Dec.{ltb, eqb}
-use borrow.Author.Tests.{eqb-false, not-false}
+use borrow.Author.Tests.{eqb-false, ltb-false, not-false}
 use Rattle.texts.specs.Bytes.{allOf}
 use Rattle.texts.specs.Answers.{Meaning, answerOf}
 use Rattle.texts.specs.Code.{sameCode, codeOf}
@@ -39,11 +39,12 @@ all-cleared (s ∷ l) h =
     let c = both (eqb (s .applied) 0) _ (b .1) in
     and (zeroShop (unmarked s)) _ (and _ _ (a .0) (and _ _ (b .0) (and _ _ (c .0) refl))) (all-cleared l (k .1))
 
-pub record Free (self : Replica) : Type 0 where
+pub record Free (self : Replica) (amount : ℕ) : Type 0 where
   pub lawful : lawful self ≡ true
   pub notUsedUp : eqb (ownShop self .applied) 999999 ≡ false
+  pub enough : amount ≤ ownShop self .balance
 
-pub free : (self : Replica) (payee : List ℕ) (amount : ℕ) (buffer : List ℕ) → issueAnswer self payee amount buffer ≡ 0 → Free self
+pub free : (self : Replica) (payee : List ℕ) (amount : ℕ) (buffer : List ℕ) → issueAnswer self payee amount buffer ≡ 0 → Free self amount
 unfolding issueRows
 free self payee amount buffer e =
     let c13 = first-zero Meaning.state (not (lawful self)) _ (omega arith) e in
@@ -53,7 +54,8 @@ free self payee amount buffer e =
     let c4 = first-zero Meaning.range (eqb amount 0 || ltb 999999 amount) _ (omega arith) (c3 .1) in
     let c8 = first-zero Meaning.busy (busy? self) _ (omega arith) (c4 .1) in
     let c10 = first-zero Meaning.usedup (eqb (ownShop self .applied) 999999) _ (omega arith) (c8 .1) in
-    record { lawful = not-false _ (c13 .0); notUsedUp = c10 .0 }
+    let c9 = first-zero Meaning.short (ltb (ownShop self .balance) amount) _ (omega arith) (c10 .1) in
+    record { lawful = not-false _ (c13 .0); notUsedUp = c10 .0; enough = ltb-false (ownShop self .balance) amount (c9 .0) }
 
 module _ (self : Replica) (P : Parts self) (h : eqb (ownShop self .applied) 999999 ≡ false) where
   R : RegisterLegal (self .register)

@@ -2,30 +2,28 @@
 use mathlib.Core.Path.{_≡_, refl, sym, ap, _∙_}
 use mathlib.Core.Logic.{_≢_}
 use mathlib.Core.Bool.{true, false≢true}
-use mathlib.Core.List.{List, [], _∷_}
-use Prim.Native.Nat.{ℕ, zero, suc, _<_}
+use mathlib.Core.List.{List}
+use Prim.Native.Nat.{ℕ, _<_}
 use native.Mathlib.Omega.{arith}
 use lib.ListN.{getD}
-use Rattle.texts.specs.declared.register.Register.{Register}
 use Rattle.replica.specs.declared.record.Shop.{Shop}
 use Rattle.replica.specs.declared.record.Waiting.{Waiting}
 use Rattle.replica.specs.declared.record.Replica.{Replica}
 use Rattle.replica.specs.Record.{shopCount, shopAt}
 use Rattle.replica.specs.State.{lawful}
 use Rattle.replica.specs.Settle.{firstWaiting, ready, apply, Settles, stop, step}
-use Rattle.replica.specs.Take.{slipFrom, takeAnswer, entered, taken}
-use Rattle.replica.specs.Issue.{issueAnswer, issuing, issued}
-use Rattle.replica.specs.Calls.{Call, take, issue, balance, call, after, end}
-use Rattle.replica.specs.Lasting.{ReadyStays, ReadyIsApplied, Crossed, SameFront, CrossedForEver}
+use Rattle.replica.specs.Take.{slipFrom, entered}
+use Rattle.replica.specs.Issue.{issuing}
+use Rattle.replica.specs.Calls.{end}
+use Rattle.replica.specs.Lasting.{StepsKeep, ReadyStays, ReadyIsApplied, Crossed, SameFront, CrossedForEver}
 use Rattle.replica.proofs.Sums.{either}
 use Rattle.replica.proofs.Quiet.{apply-count}
 use Rattle.replica.proofs.Parts.{parts}
 use Rattle.replica.proofs.Settling.{settles-so}
 use Rattle.replica.proofs.Applied.{apply-lawful, same}
 use Rattle.replica.proofs.Taken.{entered-lawful}
-use Rattle.replica.proofs.Issued.{asked-same}
-use Rattle.replica.proofs.Promises.{rises, takes-lawful, issues-lawful}
-use Rattle.replica.proofs.Runs.{took-settled, took-same, issued-issuing, issued-same, call-register}
+use Rattle.replica.proofs.Promises.{rises, issues-lawful}
+use Rattle.replica.proofs.Keeping.{took-settled, issued-issuing, calls-keep}
 use Rattle.replica.proofs.Fronts.{FrontKept, apply-front, enter-alone, enter-front, issue-front, ready-needs, apply-keeps, enter-keeps, issue-keeps, one-more}
 
 -- ---- a ready slip stays ready
@@ -64,66 +62,57 @@ Stands self then p q = Crossed then p q × SameFront self then p × SameFront se
 stands-first : (self : Replica) (p q : ℕ) → Crossed self p q → Stands self self p q
 stands-first self p q C = (C, record { applied = refl; first = refl }, record { applied = refl; first = refl })
 
-stands-on : (a b c : Replica) (p q : ℕ) → Stands a b p q → Stands b c p q → Stands a c p q
-stands-on a b c p q S T = (T .0, on p (S .1) (T .1), on q (S .2) (T .2))
-  where
-    on : (r : ℕ) → SameFront a b r → SameFront b c r → SameFront a c r
-    on r F G = record { applied = G .applied ∙ F .applied; first = G .first ∙ F .first }
-
-stands-kept : (self then : Replica) (p q : ℕ) → Crossed self p q → FrontKept self then p → FrontKept self then q → Stands self then p q
-stands-kept self then p q C F G = (
+-- one step more that keeps both fronts
+stands-kept : (self then next : Replica) (p q : ℕ) → Stands self then p q → FrontKept then next p → FrontKept then next q → Stands self next p q
+stands-kept self then next p q (C, A, B) F G = (
   record {
     waitsP = F .some;
     waitsQ = G .some;
     onQ = omega (arith, C .onQ, G .front .applied, ap (λ (x : Waiting). getD (x .needs) q 0) (F .front .first));
     onP = omega (arith, C .onP, F .front .applied, ap (λ (x : Waiting). getD (x .needs) p 0) (G .front .first));
   },
-  F .front,
-  G .front,
+  on p A (F .front),
+  on q B (G .front),
 )
+  where
+    on : (r : ℕ) → SameFront self then r → SameFront then next r → SameFront self next r
+    on r A F = record { applied = F .applied ∙ A .applied; first = F .first ∙ A .first }
 
 -- neither is ready
 not-ready : (self : Replica) (p q : ℕ) → q < shopCount self → shopAt self q .applied < getD (firstWaiting self p .needs) q 0 → (a : ℕ) → ready self a ≡ true → p ≢ a
 not-ready self p q h on a r j = let e : ready self p ≡ true = rw j r in absurd (omega (arith, ready-needs self p e q h))
 
-settle-stands : {self end : Replica} {list : List ℕ} → Settles self list end → lawful self ≡ true → (p q : ℕ) → p < shopCount self → q < shopCount self → Crossed self p q → Stands self end p q
-settle-stands (stop {self} N) l p q h k C = stands-first self p q C
-settle-stands (step {self} {end} {p = a} b N r t) l p q h k C =
-    let P = parts self l in
-    let c = apply-count self a in
-    let F = apply-front self a P b r p (not-ready self p q k (C .onQ) a r) (C .waitsP) in
-    let G = apply-front self a P b r q (not-ready self q p h (C .onP) a r) (C .waitsQ) in
-    let S = stands-kept self (apply self a) p q C F G in
-    stands-on self (apply self a) end p q S (settle-stands t (apply-lawful self a l b r) p q (omega arith) (omega arith) (S .0))
+-- what the steps keep of it
+pub record Kept (self : Replica) (p q : ℕ) (then : Replica) : Type 0 where
+  pub lawful : lawful then ≡ true
+  pub count : shopCount then ≡ shopCount self
+  pub stands : Stands self then p q
 
-call-stands : (self : Replica) → lawful self ≡ true → (p q : ℕ) → p < shopCount self → q < shopCount self → Crossed self p q → (c : Call) → Stands self (after self c) p q
-unfolding call
-call-stands self l p q h k C (take text list) = go (takeAnswer self text list) refl
-  where
-    go : (n : ℕ) → takeAnswer self text list ≡ n → Stands self (taken self text list .replica) p q
-    go zero e =
-        let s = entered self (slipFrom text) in
-        let S = stands-kept self s p q C (enter-front self text list e p (C .waitsP)) (enter-front self text list e q (C .waitsQ)) in
-        rw (took-settled self text list e)
-        (stands-on self s _ p q S (settle-stands (settles-so s) (entered-lawful self text list e) p q (unfold entered in h) (unfold entered in k) (S .0)))
-    go (suc n) e = rw (took-same self text list n e) (stands-first self p q C)
-call-stands self l p q h k C (issue payee amount buffer) = go (issueAnswer self payee amount buffer) refl
-  where
-    go : (n : ℕ) → issueAnswer self payee amount buffer ≡ n → Stands self (issued self payee amount buffer .replica) p q
-    go zero e = rw (issued-issuing self payee amount buffer e) (stands-kept self (issuing self) p q C (issue-front self p (C .waitsP)) (issue-front self q (C .waitsQ)))
-    go (suc n) e = rw (issued-same self payee amount buffer n e) (stands-first self p q C)
-call-stands self l p q h k C (balance code) = rw (asked-same self code) (stands-first self p q C)
-
-call-lawful : (self : Replica) → lawful self ≡ true → (c : Call) → lawful (after self c) ≡ true
-unfolding call
-call-lawful self l (take text list) = takes-lawful self text list l
-call-lawful self l (issue payee amount buffer) = issues-lawful self payee amount buffer l
-call-lawful self l (balance code) = rw (asked-same self code) l
+stands-on : (self : Replica) (p q : ℕ) → p < shopCount self → q < shopCount self → StepsKeep (Kept self p q)
+stands-on self p q h k = record {
+  entering = λ x text list e K. record {
+    lawful = entered-lawful x text list e;
+    count = unfold entered in K .count;
+    stands = stands-kept self x _ p q (K .stands) (enter-front x text list e p (K .stands .0 .waitsP)) (enter-front x text list e q (K .stands .0 .waitsQ));
+  };
+  applying = λ x a b r K.
+      let P = parts x (K .lawful) in
+      let C = K .stands .0 in
+      let n = K .count in
+      record {
+        lawful = apply-lawful x a (K .lawful) b r;
+        count = apply-count x a ∙ n;
+        stands = stands-kept self x _ p q (K .stands)
+            (apply-front x a P b r p (not-ready x p q (omega arith) (C .onQ) a r) (C .waitsP))
+            (apply-front x a P b r q (not-ready x q p (omega arith) (C .onP) a r) (C .waitsQ));
+      };
+  writing = λ x payee amount buffer e K. record {
+    lawful = rw (sym (issued-issuing x payee amount buffer e)) (issues-lawful x payee amount buffer (K .lawful));
+    count = unfold issuing in K .count;
+    stands = stands-kept self x _ p q (K .stands) (issue-front x p (K .stands .0 .waitsP)) (issue-front x q (K .stands .0 .waitsQ));
+  };
+}
 
 pub crossed-for-ever : CrossedForEver
-unfolding end
-crossed-for-ever self l p q h k C [] = stands-first self p q C
-crossed-for-ever self l p q h k C (c ∷ cs) =
-    let n : shopCount (after self c) ≡ shopCount self = ap (λ (r : Register). r .count) (call-register self c) in
-    let S = call-stands self l p q h k C c in
-    stands-on self (after self c) _ p q S (crossed-for-ever (after self c) (call-lawful self l c) p q (omega arith) (omega arith) (S .0) cs)
+crossed-for-ever self l p q h k C cs =
+    calls-keep (Kept self p q) (stands-on self p q h k) self (record { lawful = l; count = refl; stands = stands-first self p q C }) cs .stands

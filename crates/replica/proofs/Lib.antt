@@ -28,6 +28,7 @@ pub mod Only
 pub mod Orders
 pub mod Credit
 pub mod Reached
+pub mod Keeping
 pub mod Runs
 pub mod Amounts
 pub mod Demand
@@ -38,3 +39,6 @@ pub mod AnyOrder
 pub mod ForEver
 pub mod Histories
 pub mod AssetTransfer
+pub mod Transfers
+pub mod Moments
+pub mod Figure4

@@ -61,7 +61,7 @@ module _ (self : Replica) (p : ℕ) (P : Parts self) (h : p < shopCount self) (e
   abbrev Moves : ℕ → Type 0
   Moves q = shopAt (apply self p) q .balance + only p (costs 0 x) q ≡ shopAt self q .balance + brings (self .register .shops) q 0 x
 
-  moves : (q : ℕ) → q < shopCount self → Moves q
+  pub moves : (q : ℕ) → q < shopCount self → Moves q
   moves q l =
       let w = firstWaiting self p in
       let r = self .register in
@@ -80,7 +80,7 @@ module _ (self : Replica) (p : ℕ) (P : Parts self) (h : p < shopCount self) (e
       (λ j. omega (arith, ap (λ (s : Shop). s .balance) (is-out self p (other self p P h e) q d j), only-other p (costs 0 x) q d, brings-others r w R to q l j)))
 
   -- the first slip leaves the line
-  queue-less : x ∷ waitingSlips (apply self p) p ≡ waitingSlips self p
+  pub queue-less : x ∷ waitingSlips (apply self p) p ≡ waitingSlips self p
   unfolding apply
   queue-less =
       let n = lineAt self p .count in
@@ -91,7 +91,7 @@ module _ (self : Replica) (p : ℕ) (P : Parts self) (h : p < shopCount self) (e
       ∙ firsts-same (n - 1) (slipAt (apply self p) p) (λ k. slipAt self p (k + 1)) (λ k l. ap (slipOf (self .register)) (next self p P h e k (omega arith))))
       ∙ sym (firsts-some n (slipAt self p) some)
 
-  queue-same : (q : ℕ) → q ≢ p → waitingSlips (apply self p) q ≡ waitingSlips self q
+  pub queue-same : (q : ℕ) → q ≢ p → waitingSlips (apply self p) q ≡ waitingSlips self q
   unfolding apply
   queue-same q d = ap (λ (x : Line). firsts (x .count) (λ k. slipOf (self .register) (atPlace x k))) (line-other self p q d)
 
@@ -136,11 +136,6 @@ unfolding appliedAlong
 settled-rest (stop N) t s I = record { inv = I; quiet = N }
 settled-rest (step {self} {end} {p} h N r more) t s I = settled-rest more t (noted p (slipAt self p 0) s) (apply-inv self t s p I h r)
 
--- the register stays as it was
-pub settled-register : {self end : Replica} {list : List ℕ} → Settles self list end → end .register ≡ self .register
-settled-register (stop N) = refl
-settled-register (step {self} {end} {p} h N r more) = settled-register more ∙ (unfold apply in refl)
-
 -- at rest, nothing more may be applied
 pub rest-settled : (self : Replica) (t s : Lines) → Rest self t s → Settled (tradeOf self) t s
 unfolding Settled
@@ -152,7 +147,7 @@ rest-settled self t s R p x en =
 
 module _ (self : Replica) (x : Slip) (P : Parts self) (Q : Passed (self .register) x) (ok : passes (self .register) x ≡ true)
     (number : x .number ≡ shopAt self (payerOf self x) .taken + 1) (room : lineAt self (payerOf self x) .count < 8) where
-  queue-more : waitingSlips (entered self x) (payerOf self x) ≡ waitingSlips self (payerOf self x) ++ (x ∷ [])
+  pub queue-more : waitingSlips (entered self x) (payerOf self x) ≡ waitingSlips self (payerOf self x) ++ (x ∷ [])
   unfolding entered
   queue-more =
       let r = self .register in
@@ -163,7 +158,7 @@ module _ (self : Replica) (x : Slip) (P : Parts self) (Q : Passed (self .registe
       ∙ ap (λ (l : List Slip). l ++ (slipAt (entered self x) p n ∷ [])) (firsts-same n (slipAt (entered self x) p) (slipAt self p) (λ k l. ap (slipOf r) (took.old self x P Q ok number room k l)))
       ∙ ap (λ (y : Slip). waitingSlips self p ++ (y ∷ [])) (ap (slipOf r) (took.last self x P Q ok number room n refl) ∙ one-to-one r x (register-legal r (P .register)) Q)
 
-  queue-others : (q : ℕ) → q ≢ payerOf self x → waitingSlips (entered self x) q ≡ waitingSlips self q
+  pub queue-others : (q : ℕ) → q ≢ payerOf self x → waitingSlips (entered self x) q ≡ waitingSlips self q
   unfolding entered
   queue-others q d = ap (λ (l : Line). firsts (l .count) (λ k. slipOf (self .register) (atPlace l k))) (took.line-other self x P Q ok number room q d)
 

@@ -16,15 +16,17 @@ use Rattle.replica.specs.Record.{shopCount, shopAt, lineAt}
 use Rattle.replica.specs.Slips.{slipAt, firsts}
 use Rattle.replica.specs.Checks.{passes}
 use Rattle.replica.specs.State.{lawful}
-use Rattle.replica.specs.Settle.{firstWaiting, ready, settled, applying}
+use Rattle.replica.specs.Settle.{firstWaiting, ready, apply, applying}
 use Rattle.replica.specs.Open.{fresh, opened}
 use Rattle.replica.specs.Take.{slipFrom, payerOf, takeAnswer, entered, taken}
 use Rattle.replica.specs.Issue.{issueAnswer, issuing, issued}
 use Rattle.replica.specs.Calls.{Call, take, issue, balance, call, after, end, Lines, noSlips, noted, tookIn, applied, appliedAlong, takenFrom, appliedFrom}
+use Rattle.replica.specs.Lasting.{StepsKeep}
 use Rattle.replica.proofs.Only.{every-same, sum-zero}
+use Rattle.replica.proofs.Keeping.{took-settled, took-same, issued-issuing, issued-same, call-keeps, calls-keep}
 use Rattle.replica.proofs.Orders.{total, got, spent, least-start}
 use Rattle.replica.proofs.Credit.{stock, tradeOf}
-use Rattle.replica.proofs.Reached.{Inv, Rest, enter-inv, settled-rest, settled-register}
+use Rattle.replica.proofs.Reached.{Inv, Rest, enter-inv, settled-rest}
 use Rattle.replica.proofs.Parts.{parts, whole}
 use Rattle.replica.proofs.Quiet.{none-ready}
 use Rattle.replica.proofs.Settling.{settles-so}
@@ -121,23 +123,6 @@ module _ (self : Replica) (text list : List ℕ) (lines : Lines) where
   unfolding applied
   applied-none n e = let a : taken self text list .answer ≡ suc n = take-answered self text list ∙ e in rw (a, applied)
 
--- the state that a take gives back
-pub took-settled : (self : Replica) (text list : List ℕ) → takeAnswer self text list ≡ 0 → taken self text list .replica ≡ settled (entered self (slipFrom text))
-unfolding taken
-took-settled self text list e = rw (e, taken)
-
-pub took-same : (self : Replica) (text list : List ℕ) (n : ℕ) → takeAnswer self text list ≡ suc n → taken self text list .replica ≡ self
-unfolding taken
-took-same self text list n e = rw (e, taken)
-
-pub issued-issuing : (self : Replica) (payee : List ℕ) (amount : ℕ) (buffer : List ℕ) → issueAnswer self payee amount buffer ≡ 0 → issued self payee amount buffer .replica ≡ issuing self
-unfolding issued
-issued-issuing self payee amount buffer e = rw (e, issued)
-
-pub issued-same : (self : Replica) (payee : List ℕ) (amount : ℕ) (buffer : List ℕ) (n : ℕ) → issueAnswer self payee amount buffer ≡ suc n → issued self payee amount buffer .replica ≡ self
-unfolding issued
-issued-same self payee amount buffer n e = rw (e, issued)
-
 pub call-rest : (self : Replica) (c : Call) (t s : Lines) → Rest self t s → Rest (after self c) (tookIn self c t) (applied self c s)
 unfolding call
 call-rest self (take text list) t s R = go (takeAnswer self text list) refl
@@ -154,20 +139,16 @@ call-rest self (issue payee amount buffer) t s R = unfold tookIn applied in go (
     go (suc n) e = rw (issued-same self payee amount buffer n e) R
 call-rest self (balance code) t s R = unfold tookIn applied in rw (asked-same self code) R
 
--- a call leaves the register as it was
+-- calls leave the register as it was
+register-kept : (r : Register) → StepsKeep (λ x. x .register ≡ r)
+register-kept r = record {
+  entering = λ self text list e h. unfold entered in h;
+  applying = λ self p l e h. unfold apply in h;
+  writing = λ self payee amount buffer e h. unfold issuing in h;
+}
+
 pub call-register : (self : Replica) (c : Call) → after self c .register ≡ self .register
-unfolding call
-call-register self (take text list) = go (takeAnswer self text list) refl
-  where
-    go : (n : ℕ) → takeAnswer self text list ≡ n → taken self text list .replica .register ≡ self .register
-    go zero e = ap (λ (x : Replica). x .register) (took-settled self text list e) ∙ settled-register (settles-so (entered self (slipFrom text))) ∙ (unfold entered in refl)
-    go (suc n) e = ap (λ (x : Replica). x .register) (took-same self text list n e)
-call-register self (issue payee amount buffer) = go (issueAnswer self payee amount buffer) refl
-  where
-    go : (n : ℕ) → issueAnswer self payee amount buffer ≡ n → issued self payee amount buffer .replica .register ≡ self .register
-    go zero e = ap (λ (x : Replica). x .register) (issued-issuing self payee amount buffer e) ∙ (unfold issuing in refl)
-    go (suc n) e = ap (λ (x : Replica). x .register) (issued-same self payee amount buffer n e)
-call-register self (balance code) = ap (λ (x : Replica). x .register) (asked-same self code)
+call-register self c = call-keeps (register-kept (self .register)) self c refl
 
 -- ---- a run
 
@@ -177,6 +158,4 @@ run-rest self [] t s R = R
 run-rest self (c ∷ cs) t s R = run-rest (after self c) cs (tookIn self c t) (applied self c s) (call-rest self c t s R)
 
 pub run-register : (self : Replica) (cs : List Call) → end self cs .register ≡ self .register
-unfolding end
-run-register self [] = refl
-run-register self (c ∷ cs) = run-register (after self c) cs ∙ call-register self c
+run-register self = calls-keep _ (register-kept (self .register)) self refl

@@ -1,4 +1,4 @@
--- What lasts: nobody can spoil the front of another's line, and two slips that wait for each other wait for ever.
+-- What lasts: what the steps keep, every call keeps; nobody can spoil the front of another's line; two slips that wait for each other wait for ever.
 use mathlib.Core.Path.{_≡_}
 use mathlib.Core.Logic.{_≢_}
 use mathlib.Core.Bool.{true}
@@ -12,6 +12,16 @@ use Rattle.replica.specs.Settle.{firstWaiting, ready, apply}
 use Rattle.replica.specs.Take.{slipFrom, entered, takeAnswer, taken}
 use Rattle.replica.specs.Issue.{issueAnswer, issuing}
 use Rattle.replica.specs.Calls.{Call, end}
+
+-- ---- what entering an accepted slip, applying a ready one and issuing keep, any calls keep
+
+pub record StepsKeep (P : Replica → Type 0) : Type 0 where
+  pub entering : (self : Replica) (text list : List ℕ) → takeAnswer self text list ≡ 0 → P self → P (entered self (slipFrom text))
+  pub applying : (self : Replica) (p : ℕ) → p < shopCount self → ready self p ≡ true → P self → P (apply self p)
+  pub writing : (self : Replica) (payee : List ℕ) (amount : ℕ) (buffer : List ℕ) → issueAnswer self payee amount buffer ≡ 0 → P self → P (issuing self)
+
+abbrev pub CallsKeep : Type 1
+CallsKeep = (P : Replica → Type 0) → StepsKeep P → (self : Replica) → P self → (calls : List Call) → P (end self calls)
 
 -- ---- "A shop spends only its own credit, so nobody else can spoil the front of its line."
 

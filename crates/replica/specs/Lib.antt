@@ -15,4 +15,5 @@ pub mod Calls
 pub mod Demand
 pub mod Lasting
 pub mod AssetTransfer
+pub mod Algorithm
 pub mod Trials
