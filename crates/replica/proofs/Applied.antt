@@ -11,8 +11,8 @@ use lib.Dec.{ltb, eqb}
 use borrow.Author.Tests.{eqb-true, ltb-true, leb-true, ne-eqb}
 use Rattle.texts.specs.Bytes.{allOf}
 use Rattle.texts.specs.Code.{sameCode}
-use Rattle.texts.specs.Register.{noListed}
-use Rattle.texts.specs.declared.register.Listed.{Listed}
+use Rattle.texts.specs.Entries.{noEntry}
+use Rattle.texts.specs.declared.entry.Entry.{Entry}
 use Rattle.texts.specs.declared.register.Register.{Register}
 use Rattle.texts.specs.declared.slip.Slip.{Slip}
 use Rattle.texts.proofs.Steps.{both, and, all-append, all-drop}
@@ -35,18 +35,18 @@ use Rattle.replica.proofs.Shops.{adjust-same, adjust-other, payingAt, p
 
 -- ---- a slip that passes is paid to another shop of the register
 
-zero-code : (k i : ℕ) → getD (replicate k noListed) i (record { code = record { digits = []; len = 0 }; opening = 0 }) .code .len ≡ 0
+zero-code : (k i : ℕ) → getD (replicate k noEntry) i (record { code = record { digits = []; len = 0 }; number = 0 }) .code .len ≡ 0
 zero-code zero i = refl
 zero-code (suc k) zero = refl
 zero-code (suc k) (suc i) = zero-code k i
 
 unused-code : (r : Register) (p : ℕ) → RegisterLegal r → r .count ≤ p → listedAt r p .code .len ≡ 0
 unused-code r p R h =
-    let z : Listed = record { code = record { digits = []; len = 0 }; opening = 0 } in
+    let z : Entry = record { code = record { digits = []; len = 0 }; number = 0 } in
     let e : r .count + (p - r .count) ≡ p = omega arith in
     ap (λ (i : ℕ). listedAt r i .code .len) (sym e)
-    ∙ ap (λ (l : Listed). l .code .len) (sym (getD-drop (r .count) (r .shops) (p - r .count) z))
-    ∙ ap (λ (l : List Listed). getD l (p - r .count) z .code .len) (R .fits .rest)
+    ∙ ap (λ (l : Entry). l .code .len) (sym (getD-drop (r .count) (r .shops) (p - r .count) z))
+    ∙ ap (λ (l : List Entry). getD l (p - r .count) z .code .len) (R .fits .rest)
     ∙ zero-code (16 - r .count) (p - r .count)
 
 pub passed-of : (r : Register) (s : Slip) → passes r s ≡ true → Passed r s

@@ -8,7 +8,7 @@ use lib.Dec.{eqb}
 use borrow.Author.Tests.{eq-eqb, ne-eqb, not-false}
 use Rattle.texts.specs.Answers.{Meaning, answerOf}
 use Rattle.texts.specs.Code.{codeOf}
-use Rattle.texts.specs.Register.{registerRead, position, listed}
+use Rattle.texts.specs.Register.{opening, registerRead, position, listed}
 use Rattle.texts.specs.declared.register.Register.{Register}
 use Rattle.texts.specs.declared.slip.Slip.{Slip}
 use Rattle.texts.proofs.Firsts.{first-zero}
@@ -127,11 +127,11 @@ module _ (r : Register) where
       (legal-append (r .count) Owns (call-legal self c l e) (run-legal (after self c) cs (call-lawful self c l) (call-register self c ∙ e)))
 
 -- the balances of an opened record are the openings
-opens : (text : List ℕ) → opened text .answer ≡ 0 → (p : ℕ) → shopAt (opened text .replica) p .balance ≡ listedAt (opened text .replica .register) p .opening
+opens : (text : List ℕ) → opened text .answer ≡ 0 → (p : ℕ) → shopAt (opened text .replica) p .balance ≡ opening (listedAt (opened text .replica .register) p)
 unfolding opened
 opens text e p = go (registerRead text .answer) refl
   where
-    go : (n : ℕ) → registerRead text .answer ≡ n → shopAt (opened text .replica) p .balance ≡ listedAt (opened text .replica .register) p .opening
+    go : (n : ℕ) → registerRead text .answer ≡ n → shopAt (opened text .replica) p .balance ≡ opening (listedAt (opened text .replica .register) p)
     go zero i = let r = registerRead text .register in rw (i, opened) (unfold fresh in ap (λ (x : Shop). x .balance) (fresh-shop r p))
     go (suc n) i = let z : suc n ≡ 0 = rw (i, opened) at e in absurd (omega arith)
 

@@ -10,13 +10,12 @@ use lib.Dec.{eqb}
 use borrow.Author.Tests.{eqb-true, ltb-false}
 use Rattle.texts.specs.Bytes.{allOf}
 use Rattle.texts.specs.Code.{noCode, code, sameCode}
-use Rattle.texts.specs.Register.{noListed, shopLine, place, among, twins, shopsOf, position}
-use Rattle.texts.specs.Slip.{noDep}
+use Rattle.texts.specs.Entries.{noEntry}
+use Rattle.texts.specs.Register.{shopLine, place, among, twins, shopsOf, position}
 use Rattle.texts.specs.Lines.{six}
 use Rattle.texts.specs.declared.code.Code.{Code}
-use Rattle.texts.specs.declared.register.Listed.{Listed}
+use Rattle.texts.specs.declared.entry.Entry.{Entry}
 use Rattle.texts.specs.declared.register.Register.{Register}
-use Rattle.texts.specs.declared.slip.Dep.{Dep}
 use Rattle.texts.proofs.Steps.{both, all-zeros, all-at}
 use Rattle.texts.proofs.LawsTexts.{same-code}
 use Rattle.texts.proofs.Legal.{code-same, code-not-zeros, RegisterLegal, register-legal, place-head, place-later, single-more}
@@ -40,7 +39,7 @@ other-way a b e = go (sameCode b a) refl
         absurd (false≢true (sym e ∙ ap (sameCode a) j ∙ code-same a))
 
 -- a shop stands at its own position
-pub place-self : (us : List Listed) (z : Listed) (i : ℕ) → twins us ≡ false → i < length us → place us (getD us i z .code) ≡ i
+pub place-self : (us : List Entry) (z : Entry) (i : ℕ) → twins us ≡ false → i < length us → place us (getD us i z .code) ≡ i
 place-self [] z i t h = absurd (omega arith)
 place-self (u ∷ us) z zero t h = place-head u us (u .code) (code-same (u .code))
 place-self (u ∷ us) z (suc i) t h = go (sameCode (u .code) (getD us i z .code)) refl (place-self us z i (k .1) (omega arith))
@@ -57,7 +56,7 @@ place-self (u ∷ us) z (suc i) t h = go (sameCode (u .code) (getD us i z .code)
         absurd (omega arith)
 
 -- no number for a code that is not among the shops
-absent : (us : List Listed) (ns : List ℕ) (c : Code) → length us ≤ place us c → numberFor (depsFrom us ns) c ≡ 0
+absent : (us : List Entry) (ns : List ℕ) (c : Code) → length us ≤ place us c → numberFor (depsFrom us ns) c ≡ 0
 unfolding numberFor depsFrom
 absent [] ns c h = refl
 absent (u ∷ us) [] c h = refl
@@ -71,10 +70,10 @@ absent (u ∷ us) (suc m ∷ ns) c h =
     let i = absent us ns c (omega arith) in
     rw (other-way (u .code) c n, numberFor) i
 
-abbrev needs : List Dep → List Listed → List ℕ
-needs ds us = map (λ (l : Listed). numberFor ds (l .code)) us
+abbrev needs : List Entry → List Entry → List ℕ
+needs ds us = map (λ (l : Entry). numberFor ds (l .code)) us
 
-numbers-back : (us : List Listed) (ns : List ℕ) → twins us ≡ false → length ns ≡ length us → needs (depsFrom us ns) us ≡ ns
+numbers-back : (us : List Entry) (ns : List ℕ) → twins us ≡ false → length ns ≡ length us → needs (depsFrom us ns) us ≡ ns
 numbers-back [] [] t e = refl
 numbers-back [] (n ∷ ns) t e = absurd (omega arith)
 numbers-back (u ∷ us) [] t e = absurd (omega arith)
@@ -86,28 +85,28 @@ numbers-back (u ∷ us) (zero ∷ ns) t e =
 numbers-back (u ∷ us) (suc m ∷ ns) t e =
     let k = single-more u us t in
     let l = ltb-false (place us (u .code)) (length us) (k .0) in
-    let v : Dep = record { code = u .code; number = suc m } in
+    let v : Entry = record { code = u .code; number = suc m } in
     let d : depsFrom (u ∷ us) (suc m ∷ ns) ≡ v ∷ depsFrom us ns = unfold depsFrom in refl in
     let f : numberFor (v ∷ depsFrom us ns) (u .code) ≡ suc m = unfold numberFor in rw (code-same (u .code), numberFor) in
     ap (λ ds. needs ds (u ∷ us)) d ∙ ap₂ (λ x xs. x ∷ xs) f (past-all us v (depsFrom us ns) l ∙ numbers-back us ns (k .1) (omega arith))
 
 -- ---- the unused places
 
-no-code : (us : List Listed) → allOf (shopLine .legal) us ≡ true → length us ≤ place us noCode
+no-code : (us : List Entry) → allOf (shopLine .legal) us ≡ true → length us ≤ place us noCode
 unfolding allOf
 no-code [] h = omega arith
 no-code (u ∷ us) h =
     let k = both (shopLine .legal u) (allOf (shopLine .legal) us) h in
-    let l = both (code 58 .legal (u .code)) (six .legal (u .opening)) (k .0) in
+    let l = both (code 58 .legal (u .code)) (six .legal (u .number)) (k .0) in
     let s = code-not-zeros (u .code) (l .0) in
     let i = no-code us (k .1) in
     omega (arith, place-later u us noCode s)
 
-pub from-zeros : (us zs : List Listed) (ns : List ℕ) (j : ℕ) → length ns ≡ length us → depsFrom (us ++ zs) (ns ++ replicate j 0) ≡ depsFrom us ns
+pub from-zeros : (us zs : List Entry) (ns : List ℕ) (j : ℕ) → length ns ≡ length us → depsFrom (us ++ zs) (ns ++ replicate j 0) ≡ depsFrom us ns
 unfolding depsFrom
 from-zeros [] zs [] j e = go zs j
   where
-    go : (zs : List Listed) (j : ℕ) → depsFrom zs (replicate j 0) ≡ []
+    go : (zs : List Entry) (j : ℕ) → depsFrom zs (replicate j 0) ≡ []
     go [] j = refl
     go (z ∷ zs) zero = refl
     go (z ∷ zs) (suc j) = go zs j
@@ -143,31 +142,31 @@ module _ (r : Register) (R : RegisterLegal r) (w : Waiting) (payer : w .payer < 
 
   deps : depsFrom (r .shops) (w .needs) ≡ depsFrom (shopsOf r) ns
   deps =
-      ap₂ (λ (l : List Listed) (m : List ℕ). depsFrom l m) (sym (take-append-drop (r .count) (r .shops))) (sym split)
+      ap₂ (λ (l : List Entry) (m : List ℕ). depsFrom l m) (sym (take-append-drop (r .count) (r .shops))) (sym split)
       ∙ from-zeros (shopsOf r) (drop (r .count) (r .shops)) ns (16 - r .count) same-length
 
   numbers : needs (depsFrom (r .shops) (w .needs)) (r .shops) ≡ w .needs
   numbers =
       let ds = depsFrom (shopsOf r) ns in
-      let g : Listed → ℕ = λ l. numberFor ds (l .code) in
-      let z : g noListed ≡ 0 = absent (shopsOf r) ns noCode (no-code (shopsOf r) (R .fits .used)) in
+      let g : Entry → ℕ = λ l. numberFor ds (l .code) in
+      let z : g noEntry ≡ 0 = absent (shopsOf r) ns noCode (no-code (shopsOf r) (R .fits .used)) in
       ap (λ d. needs d (r .shops)) deps
       ∙ ap (map g) (sym (take-append-drop (r .count) (r .shops)) ∙ ap (λ x. shopsOf r ++ x) (R .fits .rest))
-      ∙ map-append g (shopsOf r) (replicate (16 - r .count) noListed)
-      ∙ ap₂ (λ x y. x ++ y) (numbers-back (shopsOf r) ns (R .single) same-length) (map-replicate g (16 - r .count) noListed ∙ ap (replicate (16 - r .count)) z)
+      ∙ map-append g (shopsOf r) (replicate (16 - r .count) noEntry)
+      ∙ ap₂ (λ x y. x ++ y) (numbers-back (shopsOf r) ns (R .single) same-length) (map-replicate g (16 - r .count) noEntry ∙ ap (replicate (16 - r .count)) z)
       ∙ split
 
   -- a position comes back from its shop's code
   position-back : (p : ℕ) → p < r .count → position r (listedAt r p .code) ≡ p
   position-back p h =
-      let z : Listed = record { code = record { digits = []; len = 0 }; opening = 0 } in
-      ap (λ (l : Listed). place (shopsOf r) (l .code)) (sym (getD-take (r .count) (r .shops) p z h)) ∙ place-self (shopsOf r) z p (R .single) (omega (arith, used))
+      let z : Entry = record { code = record { digits = []; len = 0 }; number = 0 } in
+      ap (λ (l : Entry). place (shopsOf r) (l .code)) (sym (getD-take (r .count) (r .shops) p z h)) ∙ place-self (shopsOf r) z p (R .single) (omega (arith, used))
 
   pub waiting-back : waitingOf r (slipOf r w) ≡ w
   unfolding waitingOf slipOf
   waiting-back =
       let ds = depsFrom (r .shops) (w .needs) in
-      let t : take (length ds) (ds ++ replicate (15 - length ds) noDep) ≡ ds = take-at ds (replicate (15 - length ds) noDep) (length ds) refl in
+      let t : take (length ds) (ds ++ replicate (16 - length ds) noEntry) ≡ ds = take-at ds (replicate (16 - length ds) noEntry) (length ds) refl in
       λ i. record {
         payer = position-back (w .payer) payer i;
         number = w .number;

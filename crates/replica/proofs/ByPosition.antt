@@ -12,12 +12,12 @@ use borrow.Author.Tests.{eqb-true, eqb-false, leb-true, lt-ltb, le-leb, ne-eqb, 
 use Rattle.texts.specs.Bytes.{allOf}
 use Rattle.texts.specs.Answers.{Meaning, answerOf}
 use Rattle.texts.specs.Code.{code, sameCode}
+use Rattle.texts.specs.Entries.{noEntry}
 use Rattle.texts.specs.Register.{shopLine, place, shopsOf, position, listed, registerAnswer}
-use Rattle.texts.specs.Slip.{noDep, depLine, slipLayout, depsOf}
+use Rattle.texts.specs.Slip.{depLine, slipLayout, depsOf}
 use Rattle.texts.specs.Lines.{six}
-use Rattle.texts.specs.declared.register.Listed.{Listed}
+use Rattle.texts.specs.declared.entry.Entry.{Entry}
 use Rattle.texts.specs.declared.register.Register.{Register}
-use Rattle.texts.specs.declared.slip.Dep.{Dep}
 use Rattle.texts.proofs.Firsts.{zero-first, no-rows}
 use Rattle.texts.proofs.LawsTexts.{same-code}
 use Rattle.texts.proofs.Steps.{both, and, nor, all-at, all-drop}
@@ -64,7 +64,7 @@ not-some zero h = refl
 not-some (suc m) h = absurd (h (omega arith))
 
 -- what holds of each dependency holds of each shop with its number, where that is not 0
-all-from : (z : Listed) (Q : Dep → Bool) (us : List Listed) (ns : List ℕ) → allOf Q (depsFrom us ns) ≡ true
+all-from : (z : Entry) (Q : Entry → Bool) (us : List Entry) (ns : List ℕ) → allOf Q (depsFrom us ns) ≡ true
     → (j : ℕ) → j < length us → 0 < getD ns j 0 → Q (record { code = getD us j z .code; number = getD ns j 0 }) ≡ true
 unfolding depsFrom allOf
 all-from z Q [] ns h j l p = absurd (omega arith)
@@ -75,7 +75,7 @@ all-from z Q (u ∷ us) (suc m ∷ ns) h zero l p = both (Q (record { code = u .
 all-from z Q (u ∷ us) (suc m ∷ ns) h (suc j) l p = all-from z Q us ns (both (Q (record { code = u .code; number = suc m })) _ h .1) j (omega arith) p
 
 -- numbers that are all 0 give none
-from-nothing : (us : List Listed) (ns : List ℕ) → ((j : ℕ) → getD ns j 0 ≡ 0) → depsFrom us ns ≡ []
+from-nothing : (us : List Entry) (ns : List ℕ) → ((j : ℕ) → getD ns j 0 ≡ 0) → depsFrom us ns ≡ []
 unfolding depsFrom
 from-nothing [] ns h = refl
 from-nothing (u ∷ us) [] h = refl
@@ -83,7 +83,7 @@ from-nothing (u ∷ us) (zero ∷ ns) h = from-nothing us ns (λ j. h (suc j))
 from-nothing (u ∷ us) (suc m ∷ ns) h = absurd (omega (arith, h 0))
 
 -- where the numbers from n on are 0, the first n shops give them all
-from-front : (n : ℕ) (us : List Listed) (ns : List ℕ) → ((j : ℕ) → n ≤ j → getD ns j 0 ≡ 0) → depsFrom us ns ≡ depsFrom (take n us) ns
+from-front : (n : ℕ) (us : List Entry) (ns : List ℕ) → ((j : ℕ) → n ≤ j → getD ns j 0 ≡ 0) → depsFrom us ns ≡ depsFrom (take n us) ns
 unfolding depsFrom
 from-front zero us ns h = from-nothing us ns (λ j. h j (omega arith))
 from-front (suc n) [] ns h = refl
@@ -92,8 +92,8 @@ from-front (suc n) (u ∷ us) (zero ∷ ns) h = from-front n us ns (λ j l. h (s
 from-front (suc n) (u ∷ us) (suc m ∷ ns) h = ap (λ ds. record { code = u .code; number = suc m } ∷ ds) (from-front n us ns (λ j l. h (suc j) (omega arith)))
 
 -- dependencies in order do not name the payer
-rising-other : (r : Register) (payer least : ℕ) (ds : List Dep) → rising r payer least ds ≡ true
-    → allOf (λ (d : Dep). not (eqb (position r (d .code)) payer)) ds ≡ true
+rising-other : (r : Register) (payer least : ℕ) (ds : List Entry) → rising r payer least ds ≡ true
+    → allOf (λ (d : Entry). not (eqb (position r (d .code)) payer)) ds ≡ true
 unfolding rising allOf
 rising-other r payer least [] e = refl
 rising-other r payer least (d ∷ ds) e =
@@ -103,8 +103,8 @@ rising-other r payer least (d ∷ ds) e =
 
 -- ---- the shops of a legal register
 
-abbrev blank : Listed
-blank = record { code = record { digits = []; len = 0 }; opening = 0 }
+abbrev blank : Entry
+blank = record { code = record { digits = []; len = 0 }; number = 0 }
 
 module _ (r : Register) (R : RegisterLegal r) where
   used : length (shopsOf r) ≡ r .count
@@ -116,15 +116,15 @@ module _ (r : Register) (R : RegisterLegal r) where
 
   -- a shop stands at its own position
   at-place : (p : ℕ) → p < r .count → position r (listedAt r p .code) ≡ p
-  at-place p h = ap (λ (l : Listed). position r (l .code)) (sym (in-use p h)) ∙ place-self (shopsOf r) blank p (R .single) (omega (arith, used))
+  at-place p h = ap (λ (l : Entry). position r (l .code)) (sym (in-use p h)) ∙ place-self (shopsOf r) blank p (R .single) (omega (arith, used))
 
   is-listed : (p : ℕ) → p < r .count → listed r (listedAt r p .code) ≡ true
   is-listed p h = lt-ltb _ (length (shopsOf r)) (omega (arith, at-place p h, used))
 
   is-code : (p : ℕ) → p < r .count → code 10 .legal (listedAt r p .code) ≡ true
   is-code p h =
-      ap (λ (l : Listed). code 10 .legal (l .code)) (sym (in-use p h))
-      ∙ both (code 58 .legal (getD (shopsOf r) p blank .code)) (six .legal (getD (shopsOf r) p blank .opening)) (all-at (shopLine .legal) (shopsOf r) blank p (R .fits .used) (omega (arith, used))) .0
+      ap (λ (l : Entry). code 10 .legal (l .code)) (sym (in-use p h))
+      ∙ both (code 58 .legal (getD (shopsOf r) p blank .code)) (six .legal (getD (shopsOf r) p blank .number)) (all-at (shopLine .legal) (shopsOf r) blank p (R .fits .used) (omega (arith, used))) .0
 
   -- two shops have two codes
   pub two-codes : (p q : ℕ) → p < r .count → q < r .count → (p ≡ q → ⊥) → sameCode (listedAt r p .code) (listedAt r q .code) ≡ false
@@ -137,7 +137,7 @@ module _ (r : Register) (R : RegisterLegal r) where
   -- ---- a waiting slip of one of them
 
   module _ (w : Waiting) (payer : w .payer < r .count) (rest : (j : ℕ) → r .count ≤ j → getD (w .needs) j 0 ≡ 0) where
-    abbrev ds : List Dep
+    abbrev ds : List Entry
     ds = depsFrom (shopsOf r) (w .needs)
 
     deps : depsFrom (r .shops) (w .needs) ≡ ds
@@ -145,18 +145,18 @@ module _ (r : Register) (R : RegisterLegal r) where
 
     same : depsOf (slipOf r w) ≡ ds
     unfolding slipOf
-    same = let d = depsFrom (r .shops) (w .needs) in take-at d (replicate (15 - length d) noDep) (length d) refl ∙ deps
+    same = let d = depsFrom (r .shops) (w .needs) in take-at d (replicate (16 - length d) noEntry) (length d) refl ∙ deps
 
     -- what holds of each shop with its number holds of each dependency
-    every-dep : (Q : Dep → Bool) → ((j : ℕ) → j < r .count → 0 < getD (w .needs) j 0 → Q (record { code = listedAt r j .code; number = getD (w .needs) j 0 }) ≡ true) → allOf Q ds ≡ true
+    every-dep : (Q : Entry → Bool) → ((j : ℕ) → j < r .count → 0 < getD (w .needs) j 0 → Q (record { code = listedAt r j .code; number = getD (w .needs) j 0 }) ≡ true) → allOf Q ds ≡ true
     every-dep Q h = from-all blank Q (shopsOf r) (w .needs) (λ j l p.
         let k : j < r .count = omega (arith, used) in
-        ap (λ (u : Listed). Q (record { code = u .code; number = getD (w .needs) j 0 })) (in-use j k) ∙ h j k p)
+        ap (λ (u : Entry). Q (record { code = u .code; number = getD (w .needs) j 0 })) (in-use j k) ∙ h j k p)
 
     -- and back
-    dep-at : (Q : Dep → Bool) → allOf Q ds ≡ true → (j : ℕ) → j < r .count → 0 < getD (w .needs) j 0 → Q (record { code = listedAt r j .code; number = getD (w .needs) j 0 }) ≡ true
+    dep-at : (Q : Entry → Bool) → allOf Q ds ≡ true → (j : ℕ) → j < r .count → 0 < getD (w .needs) j 0 → Q (record { code = listedAt r j .code; number = getD (w .needs) j 0 }) ≡ true
     dep-at Q e j k p =
-        ap (λ (u : Listed). Q (record { code = u .code; number = getD (w .needs) j 0 })) (sym (in-use j k))
+        ap (λ (u : Entry). Q (record { code = u .code; number = getD (w .needs) j 0 })) (sym (in-use j k))
         ∙ all-from blank Q (shopsOf r) (w .needs) e j (omega (arith, used)) p
 
     -- kept by position, it passes checks 1, 4, 2, 3 and 5
@@ -171,9 +171,9 @@ module _ (r : Register) (R : RegisterLegal r) where
         let fifteen : length ds ≤ 15 = omega (arith, from-fewer (shopsOf r) (w .needs) p (omega (arith, used)) none, used, R .fits .most) in
         let legal : allOf (depLine .legal) ds ≡ true = every-dep (depLine .legal) (λ j h q.
         and _ _ (is-code j h) (and _ _ (and _ _ (le-leb 0 (getD (w .needs) j 0) (omega arith)) (le-leb _ 999999 (N .at j (near j h) .most))) refl)) in
-        let known : allOf (λ (d : Dep). listed r (d .code)) ds ≡ true = every-dep (λ (d : Dep). listed r (d .code)) (λ j h q. is-listed j h) in
-        let positive : allOf (λ (d : Dep). ltb 0 (d .number)) ds ≡ true = every-dep (λ (d : Dep). ltb 0 (d .number)) (λ j h q. lt-ltb 0 _ q) in
-        let others : allOf (λ (d : Dep). not (eqb (position r (d .code)) p)) ds ≡ true = every-dep (λ (d : Dep). not (eqb (position r (d .code)) p)) (λ j h q.
+        let known : allOf (λ (d : Entry). listed r (d .code)) ds ≡ true = every-dep (λ (d : Entry). listed r (d .code)) (λ j h q. is-listed j h) in
+        let positive : allOf (λ (d : Entry). ltb 0 (d .number)) ds ≡ true = every-dep (λ (d : Entry). ltb 0 (d .number)) (λ j h q. lt-ltb 0 _ q) in
+        let others : allOf (λ (d : Entry). not (eqb (position r (d .code)) p)) ds ≡ true = every-dep (λ (d : Entry). not (eqb (position r (d .code)) p)) (λ j h q.
         ap not (ne-eqb _ p (λ e. N .at j (near j h) .other q (sym (at-place j h) ∙ e)))) in
         let rises : rising r (position r (listedAt r p .code)) 0 ds ≡ true =
         ap (λ (k : ℕ). rising r k 0 ds) (at-place p payer) ∙ up-rising r p 0 ds (from-up (shopsOf r) (w .needs) (R .single)) others in
@@ -182,8 +182,8 @@ module _ (r : Register) (R : RegisterLegal r) where
         ∙ legal-slip (listedAt r p .code) (w .number) (listedAt r (w .payee) .code) (w .amount) ds (is-code p payer) (is-code (w .payee) (K .payee)) (omega arith) (K .most) fifteen legal in
         eq-eqb (answerOf (slipRows r (slipOf r w))) 0
         (zero-first Meaning.form _ _ (ap not f)
-        (zero-first Meaning.range _ _ (nor _ _ (ne-eqb (w .number) 0 (λ e. omega arith)) (nor _ _ (ne-eqb (w .amount) 0 (λ e. omega (arith, K .some))) (ap not (ap (allOf (λ (d : Dep). ltb 0 (d .number))) same ∙ positive))))
-        (zero-first Meaning.shop _ _ (ap not (and _ _ (is-listed p payer) (and _ _ (is-listed (w .payee) (K .payee)) (ap (allOf (λ (d : Dep). listed r (d .code))) same ∙ known))))
+        (zero-first Meaning.range _ _ (nor _ _ (ne-eqb (w .number) 0 (λ e. omega arith)) (nor _ _ (ne-eqb (w .amount) 0 (λ e. omega (arith, K .some))) (ap not (ap (allOf (λ (d : Entry). ltb 0 (d .number))) same ∙ positive))))
+        (zero-first Meaning.shop _ _ (ap not (and _ _ (is-listed p payer) (and _ _ (is-listed (w .payee) (K .payee)) (ap (allOf (λ (d : Entry). listed r (d .code))) same ∙ known))))
         (zero-first Meaning.oneself _ _ (two-codes (w .payee) p (K .payee) payer (K .other))
         (zero-first Meaning.deps _ _ (ap not (ap (rising r (position r (listedAt r p .code)) 0) same ∙ rises)) no-rows)))))
 
@@ -205,7 +205,7 @@ module _ (r : Register) (R : RegisterLegal r) where
             most = most j (getD (w .needs) j 0) refl;
             known = below j;
             other = λ q e.
-                let o = dep-at (λ (d : Dep). not (eqb (position r (d .code)) (position r (listedAt r p .code)))) others j (below j q) q in
+                let o = dep-at (λ (d : Entry). not (eqb (position r (d .code)) (position r (listedAt r p .code)))) others j (below j q) q in
                 eqb-false _ _ (not-true _ o) (ap (λ (i : ℕ). position r (listedAt r i .code)) e);
           };
         })))

@@ -12,13 +12,13 @@ use borrow.Author.Tests.{ltb-true, ltb-false, lt-ltb, le-ltb, le-leb, lt-leb, eq
 use Rattle.texts.specs.Bytes.{allOf}
 use Rattle.texts.specs.Code.{noCode, sameCode}
 use Rattle.texts.specs.Answers.{Meaning, answerOf}
-use Rattle.texts.specs.Register.{noListed, place, among, twins, shopsOf, position, listed, registerAnswer, registerRead}
+use Rattle.texts.specs.Entries.{noEntry}
+use Rattle.texts.specs.Register.{place, among, twins, shopsOf, position, listed, registerAnswer, registerRead}
 use Rattle.texts.specs.Slip.{depLine, slipLayout, depsOf}
 use Rattle.texts.specs.declared.code.Code.{Code}
-use Rattle.texts.specs.declared.register.Listed.{Listed}
+use Rattle.texts.specs.declared.entry.Entry.{Entry}
 use Rattle.texts.specs.declared.register.Register.{Register}
 use Rattle.texts.specs.declared.register.RegisterRead.{RegisterRead}
-use Rattle.texts.specs.declared.slip.Dep.{Dep}
 use Rattle.texts.specs.declared.slip.Slip.{Slip}
 use Rattle.texts.proofs.Steps.{both, all-used-at, all-drop}
 use Rattle.texts.proofs.Firsts.{no-rows}
@@ -33,7 +33,7 @@ use Rattle.replica.specs.Record.{noShop, noReplica}
 use Rattle.replica.specs.Slips.{numberFor, waitingOf}
 use Rattle.replica.specs.Checks.{range?, shop?, self?, rising, deps?, checkRows}
 use Rattle.replica.specs.Outcome.{refused}
-use Rattle.replica.specs.Open.{opening, fresh, opened}
+use Rattle.replica.specs.Open.{firstDay, fresh, opened}
 use Rattle.replica.specs.Inside.{placesOf}
 use Rattle.replica.proofs.OneToOne.{past-all, for-zero, below}
 use Rattle.replica.proofs.Opened.{map-replicate}
@@ -144,7 +144,7 @@ module _ {A : Type 0} {test : A → Bool} {n : ℕ} {xs : List A} {i : ℕ} (p :
 
 -- ---- the positions of a slip's codes
 
-abbrev at : Register → Dep → ℕ
+abbrev at : Register → Entry → ℕ
 at r d = position r (d .code)
 
 -- what a list's place holds, when each is made of another's
@@ -153,7 +153,7 @@ map-at f [] i a b h = absurd (omega arith)
 map-at f (x ∷ xs) zero a b h = refl
 map-at f (x ∷ xs) (suc i) a b h = map-at f xs i a b (omega arith)
 
-module _ (r : Register) (s : Slip) (p : Places) (e : p ≡ placesOf r s) (places : length (s .deps) ≡ 15) (few : s .count ≤ 15) where
+module _ (r : Register) (s : Slip) (p : Places) (e : p ≡ placesOf r s) (places : length (s .deps) ≡ 16) (few : s .count ≤ 15) where
   -- as many as the dependencies in use
   used-size : length (map (at r) (depsOf s)) ≡ s .count
   used-size = length-map (depsOf s) (at r) ∙ length-take-le (s .count) (s .deps) (omega arith)
@@ -163,26 +163,26 @@ module _ (r : Register) (s : Slip) (p : Places) (e : p ≡ placesOf r s) (places
   unfolding placesOf
   used-places =
       ap (λ (x : Places). take (s .count) (x .deps)) e
-      ∙ take-at (map (at r) (depsOf s)) (replicate (15 - s .count) 0) (s .count) used-size
+      ∙ take-at (map (at r) (depsOf s)) (replicate (16 - s .count) 0) (s .count) used-size
 
   -- each of them holds the position of its dependency
-  pub place-of : (i : ℕ) (z : Dep) → i < s .count → getD (p .deps) i 0 ≡ at r (getD (s .deps) i z)
+  pub place-of : (i : ℕ) (z : Entry) → i < s .count → getD (p .deps) i 0 ≡ at r (getD (s .deps) i z)
   unfolding placesOf
   place-of i z h =
       ap (λ (x : Places). getD (x .deps) i 0) e
-      ∙ List·getD-append (map (at r) (depsOf s)) (replicate (15 - s .count) 0) 0 i (omega (arith, used-size))
+      ∙ List·getD-append (map (at r) (depsOf s)) (replicate (16 - s .count) 0) 0 i (omega (arith, used-size))
       ∙ map-at (at r) (depsOf s) i z 0 (omega (arith, length-take-le (s .count) (s .deps) (omega arith)))
       ∙ ap (at r) (getD-take (s .count) (s .deps) i z h)
 
   -- which is at most sixteen
   pub place-most : length (r .shops) ≡ 16 → (i : ℕ) → i < s .count → getD (p .deps) i 0 ≤ 16
   place-most l i h =
-      let z : Dep = record { code = noCode; number = 0 } in
+      let z : Entry = record { code = noCode; number = 0 } in
       omega (arith, place-of i z h, place-within (shopsOf r) (getD (s .deps) i z .code), length-take (r .count) (r .shops))
 
 -- the two positions and those of the dependencies are the places
 pub places-are : (r : Register) (s : Slip) {payer payee : ℕ} {deps : List ℕ} {i : ℕ} → payer ≡ position r (s .payer) → payee ≡ position r (s .payee)
-    → Filled (λ (d : Dep). position r (d .code)) 0 15 (s .count) (s .deps) deps i → s .count ≤ i
+    → Filled (λ (d : Entry). position r (d .code)) 0 16 (s .count) (s .deps) deps i → s .count ≤ i
     → record { payer = payer; payee = payee; deps = deps } ≡ placesOf r s
 unfolding placesOf
 places-are r s e f p h = λ j. record { payer = e j; payee = f j; deps = filled-done p h j }
@@ -199,18 +199,18 @@ not-zero n e = lt-ltb 0 n (omega arith)
 -- the slip's number is 0
 pub zero-number : (s : Slip) → s .number ≡ 0 → true ≡ range? s
 unfolding range?
-zero-number s e = sym (ap (λ b. b || (eqb (s .amount) 0 || not (allOf (λ (d : Dep). ltb 0 (d .number)) (depsOf s)))) (eq-eqb _ 0 e))
+zero-number s e = sym (ap (λ b. b || (eqb (s .amount) 0 || not (allOf (λ (d : Entry). ltb 0 (d .number)) (depsOf s)))) (eq-eqb _ 0 e))
 
 -- the amount is 0
 pub zero-amount : (s : Slip) → (s .number ≡ 0 → ⊥) → s .amount ≡ 0 → true ≡ range? s
 unfolding range?
-zero-amount s n e = sym (ap₂ (λ a b. a || (b || not (allOf (λ (d : Dep). ltb 0 (d .number)) (depsOf s)))) (ne-eqb _ 0 n) (eq-eqb _ 0 e))
+zero-amount s n e = sym (ap₂ (λ a b. a || (b || not (allOf (λ (d : Entry). ltb 0 (d .number)) (depsOf s)))) (ne-eqb _ 0 n) (eq-eqb _ 0 e))
 
 -- neither is: the dependencies decide
-pub zero-rest : (s : Slip) → (s .number ≡ 0 → ⊥) → (s .amount ≡ 0 → ⊥) → (t : Bool) → allOf (λ (d : Dep). ltb 0 (d .number)) (depsOf s) ≡ t → not t ≡ range? s
+pub zero-rest : (s : Slip) → (s .number ≡ 0 → ⊥) → (s .amount ≡ 0 → ⊥) → (t : Bool) → allOf (λ (d : Entry). ltb 0 (d .number)) (depsOf s) ≡ t → not t ≡ range? s
 unfolding range?
 zero-rest s n m t e =
-    ap not (sym e) ∙ sym (ap₂ (λ a b. a || (b || not (allOf (λ (d : Dep). ltb 0 (d .number)) (depsOf s)))) (ne-eqb _ 0 n) (ne-eqb _ 0 m))
+    ap not (sym e) ∙ sym (ap₂ (λ a b. a || (b || not (allOf (λ (d : Entry). ltb 0 (d .number)) (depsOf s)))) (ne-eqb _ 0 n) (ne-eqb _ 0 m))
 
 -- ---- the shop check
 
@@ -221,7 +221,7 @@ all-map f test [] = refl
 all-map f test (x ∷ xs) = ap (λ b. test (f x) && b) (all-map f test xs)
 
 -- the three tests: of the payer's position, of the payee's, and of the others'
-pub listed-tests : (r : Register) (s : Slip) (p : Places) → (registerAnswer r ≡ 0) × (s .count ≤ 15) × (p ≡ placesOf r s) → length (s .deps) ≡ 15
+pub listed-tests : (r : Register) (s : Slip) (p : Places) → (registerAnswer r ≡ 0) × (s .count ≤ 15) × (p ≡ placesOf r s) → length (s .deps) ≡ 16
     → {a b t : Bool} → ltb (p .payer) (r .count) ≡ a → ltb (p .payee) (r .count) ≡ b → allOf (λ q. ltb q (r .count)) (take (s .count) (p .deps)) ≡ t
     → a && (b && t) ≡ not (shop? r s)
 unfolding shop? placesOf
@@ -230,7 +230,7 @@ listed-tests r s p (legal, few, e) places {a} {b} {t} ea eb et =
     let size : r .count ≡ length (shopsOf r) = sym (length-take-le (r .count) (r .shops) (omega (arith, R .fits .most, R .fits .places))) in
     let payer : a ≡ listed r (s .payer) = sym ea ∙ ap₂ (λ (q : Places) n. ltb (q .payer) n) e size in
     let payee : b ≡ listed r (s .payee) = sym eb ∙ ap₂ (λ (q : Places) n. ltb (q .payee) n) e size in
-    let deps : t ≡ allOf (λ (d : Dep). listed r (d .code)) (depsOf s) =
+    let deps : t ≡ allOf (λ (d : Entry). listed r (d .code)) (depsOf s) =
     sym et
     ∙ ap₂ (λ (l : List ℕ) n. allOf (λ q. ltb q n) l) (used-places r s p e places few) size
     ∙ all-map (at r) (λ q. ltb q (length (shopsOf r))) (depsOf s)
@@ -245,7 +245,7 @@ risen payer least [] = true
 risen payer least (q ∷ qs) = leb least q && (not (eqb q payer) && risen payer (suc q) qs)
 
 -- so do the positions of dependencies
-risen-is : (r : Register) (payer least : ℕ) (ds : List Dep) → risen payer least (map (at r) ds) ≡ rising r payer least ds
+risen-is : (r : Register) (payer least : ℕ) (ds : List Entry) → risen payer least (map (at r) ds) ≡ rising r payer least ds
 unfolding risen rising
 risen-is r payer least [] = refl
 risen-is r payer least (d ∷ ds) = ap (λ b. leb least (at r d) && (not (eqb (at r d) payer) && b)) (risen-is r payer (suc (at r d)) ds)
@@ -290,7 +290,7 @@ module _ {payer n : ℕ} {qs : List ℕ} {least i : ℕ} (p : Risen payer n qs l
   risen-done h = p .left ∙ ap (risen payer least) (no-rest qs n i (p .enough) h)
 
 -- what the positions come to, the dependencies do
-pub rises : (r : Register) (s : Slip) (p : Places) → (s .count ≤ 15) × (p ≡ placesOf r s) → length (s .deps) ≡ 15
+pub rises : (r : Register) (s : Slip) (p : Places) → (s .count ≤ 15) × (p ≡ placesOf r s) → length (s .deps) ≡ 16
     → {t : Bool} → risen (p .payer) 0 (take (s .count) (p .deps)) ≡ t → t ≡ rising r (p .payer) 0 (depsOf s)
 rises r s p (few, e) places h = sym h ∙ ap (risen (p .payer) 0) (used-places r s p e places few) ∙ risen-is r (p .payer) 0 (depsOf s)
 
@@ -332,11 +332,11 @@ module _ (r : Register) (s : Slip) (z : Bool) (ez : z ≡ range? s) where
 
 -- ---- the numbers of a waiting slip
 
-abbrev needs : List Dep → List Listed → List ℕ
-needs ds us = map (λ (l : Listed). numberFor ds (l .code)) us
+abbrev needs : List Entry → List Entry → List ℕ
+needs ds us = map (λ (l : Entry). numberFor ds (l .code)) us
 
 -- one dependency more: its number goes to its shop's place
-set-number : (us : List Listed) (d : Dep) (ds : List Dep) → twins us ≡ false → place us (d .code) < length us
+set-number : (us : List Entry) (d : Entry) (ds : List Entry) → twins us ≡ false → place us (d .code) < length us
     → set (needs ds us) (place us (d .code)) (d .number) ≡ needs (d ∷ ds) us
 set-number [] d ds t h = absurd (omega arith)
 set-number (u ∷ us) d ds t h = go (sameCode (u .code) (d .code)) refl (set-number us d ds (k .1))
@@ -361,15 +361,15 @@ set-number (u ∷ us) d ds t h = go (sameCode (u .code) (d .code)) refl (set-num
 
 -- in the places that the register does not use stand zeros
 module _ (r : Register) (R : RegisterLegal r) where
-  all-needs : (ds : List Dep) → allOf (depLine .legal) ds ≡ true → needs ds (r .shops) ≡ needs ds (shopsOf r) ++ replicate (16 - r .count) 0
+  all-needs : (ds : List Entry) → allOf (depLine .legal) ds ≡ true → needs ds (r .shops) ≡ needs ds (shopsOf r) ++ replicate (16 - r .count) 0
   all-needs ds legal =
-      let f : Listed → ℕ = λ l. numberFor ds (l .code) in
+      let f : Entry → ℕ = λ l. numberFor ds (l .code) in
       ap (map f) (sym (take-append-drop (r .count) (r .shops)) ∙ ap (λ x. shopsOf r ++ x) (R .fits .rest))
-      ∙ map-append f (shopsOf r) (replicate (16 - r .count) noListed)
-      ∙ ap (λ x. needs ds (shopsOf r) ++ x) (map-replicate f (16 - r .count) noListed ∙ ap (replicate (16 - r .count)) (for-zero ds legal))
+      ∙ map-append f (shopsOf r) (replicate (16 - r .count) noEntry)
+      ∙ ap (λ x. needs ds (shopsOf r) ++ x) (map-replicate f (16 - r .count) noEntry ∙ ap (replicate (16 - r .count)) (for-zero ds legal))
 
   -- one dependency more
-  needs-more : (d : Dep) (ds : List Dep) → allOf (depLine .legal) (d ∷ ds) ≡ true → listed r (d .code) ≡ true
+  needs-more : (d : Entry) (ds : List Entry) → allOf (depLine .legal) (d ∷ ds) ≡ true → listed r (d .code) ≡ true
       → set (needs ds (r .shops)) (at r d) (d .number) ≡ needs (d ∷ ds) (r .shops)
   unfolding allOf
   needs-more d ds legal known =
@@ -377,7 +377,7 @@ module _ (r : Register) (R : RegisterLegal r) where
       let l = ltb-true (at r d) (length (shopsOf r)) known in
       let rest : List ℕ = replicate (16 - r .count) 0 in
       ap (λ ns. set ns (at r d) (d .number)) (all-needs ds (k .1))
-      ∙ set-append-left (needs ds (shopsOf r)) rest (at r d) (d .number) (omega (arith, l, length-map (shopsOf r) (λ (l : Listed). numberFor ds (l .code))))
+      ∙ set-append-left (needs ds (shopsOf r)) rest (at r d) (d .number) (omega (arith, l, length-map (shopsOf r) (λ (l : Entry). numberFor ds (l .code))))
       ∙ ap (λ ns. ns ++ rest) (set-number (shopsOf r) d ds (R .single) l)
       ∙ sym (all-needs (d ∷ ds) legal)
 
@@ -385,17 +385,17 @@ module _ (r : Register) (R : RegisterLegal r) where
   needs-none : needs [] (r .shops) ≡ replicate 16 0
   needs-none = unfold numberFor in go (r .shops) ∙ ap (λ n. replicate n 0) (R .fits .places)
     where
-      go : (us : List Listed) → map {B = ℕ} (λ (l : Listed). 0) us ≡ replicate (length us) 0
+      go : (us : List Entry) → map {B = ℕ} (λ (l : Entry). 0) us ≡ replicate (length us) 0
       go [] = refl
       go (u ∷ us) = ap (λ ns. 0 ∷ ns) (go us)
 
 -- a slip that passes the shop check: its dependencies are listed
-known-at : (r : Register) (s : Slip) → shop? r s ≡ false → (j : ℕ) (z : Dep) → s .count ≤ length (s .deps) → j < s .count → listed r (getD (s .deps) j z .code) ≡ true
+known-at : (r : Register) (s : Slip) → shop? r s ≡ false → (j : ℕ) (z : Entry) → s .count ≤ length (s .deps) → j < s .count → listed r (getD (s .deps) j z .code) ≡ true
 unfolding shop?
 known-at r s e j z l h =
     let a = both (listed r (s .payer)) _ (not-false _ e) in
     let b = both (listed r (s .payee)) _ (a .1) in
-    all-used-at (λ (d : Dep). listed r (d .code)) (s .deps) z (s .count) j (b .1) l h
+    all-used-at (λ (d : Entry). listed r (d .code)) (s .deps) z (s .count) j (b .1) l h
 
 -- what is known where a slip becomes a waiting one
 abbrev pub Placed : Register → Slip → Places → Type 0
@@ -419,17 +419,17 @@ asked-none s p e = record {
 
 module _ {s : Slip} {p : Places} {ns : List ℕ} {i : ℕ} (a : Asked s p ns i) where
   -- the one before, j, goes to its place
-  pub asked-more : (j : ℕ) (z : Dep) → j + 1 ≡ i → Asked s p (set ns (getD (p .deps) j 0) (getD (s .deps) j z .number)) j
+  pub asked-more : (j : ℕ) (z : Entry) → j + 1 ≡ i → Asked s p (set ns (getD (p .deps) j 0) (getD (s .deps) j z .number)) j
   asked-more j z e = record {
     few = a .few;
     within = omega (arith, a .within);
     holds = λ r k.
         let R = register-legal r (k .0) in
         let S = slip-legal s (k .1) in
-        let d : Dep = getD (s .deps) j z in
+        let d : Entry = getD (s .deps) j z in
         let h : j < s .count = omega (arith, a .within) in
         let l : s .count ≤ length (s .deps) = omega (arith, S .count, S .places) in
-        let rest : List Dep = drop (j + 1) (depsOf s) in
+        let rest : List Entry = drop (j + 1) (depsOf s) in
         let q : drop j (depsOf s) ≡ d ∷ rest = rest-of (s .deps) (s .count) j z l h in
         let legal : allOf (depLine .legal) (d ∷ rest) ≡ true = ap (allOf (depLine .legal)) (sym q) ∙ all-drop (depLine .legal) j (depsOf s) (S .used) in
         let spot : getD (p .deps) j 0 ≡ at r d = place-of r s p (k .3) (S .places) (S .count) j z h in
@@ -457,18 +457,18 @@ pub placed-below : (r : Register) (s : Slip) (p : Places) → Placed r s p → (
 placed-below r s p k j h =
     let R = register-legal r (k .0) in
     let S = slip-legal s (k .1) in
-    let z : Dep = record { code = noCode; number = 0 } in
+    let z : Entry = record { code = noCode; number = 0 } in
     let spot = place-of r s p (k .3) (S .places) (S .count) j z h in
     omega (arith, spot, below r (getD (s .deps) j z .code) R (known-at r s (k .2) j z (omega (arith, S .count, S .places)) h), R .fits .most)
 
 -- ---- opening
 
 -- one more shop gets its opening as its balance
-pub openings-more : {ls : List Listed} {shops : List Shop} {i : ℕ} → Filled opening noShop 16 16 ls shops i → i < 16 → (z : Listed)
-    → Filled opening noShop 16 16 ls
-    (set shops i (record { balance = getD ls i z .opening; taken = getD shops i noShop .taken; applied = getD shops i noShop .applied; mark = getD shops i noShop .mark })) (i + 1)
+pub openings-more : {ls : List Entry} {shops : List Shop} {i : ℕ} → Filled firstDay noShop 16 16 ls shops i → i < 16 → (z : Entry)
+    → Filled firstDay noShop 16 16 ls
+    (set shops i (record { balance = getD ls i z .number; taken = getD shops i noShop .taken; applied = getD shops i noShop .applied; mark = getD shops i noShop .mark })) (i + 1)
 openings-more {ls} {i = i} p h z =
-    filled-more p h z _ (ap (λ (x : Shop). record { balance = getD ls i z .opening; taken = x .taken; applied = x .applied; mark = x .mark }) (filled-next p h noShop))
+    filled-more p h z _ (ap (λ (x : Shop). record { balance = getD ls i z .number; taken = x .taken; applied = x .applied; mark = x .mark }) (filled-next p h noShop))
 
 module _ (text : List ℕ) (read : RegisterRead) (e : read ≡ registerRead text) where
   -- the register was read

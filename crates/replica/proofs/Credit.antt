@@ -10,7 +10,7 @@ use lib.Dec.{leb, ltb}
 use borrow.Author.Tests.{eqb-true, leb-true, le-leb, eq-eqb, lt-ltb}
 use Rattle.texts.specs.Code.{sameCode}
 use Rattle.texts.specs.Slip.{depsOf}
-use Rattle.texts.specs.declared.register.Listed.{Listed}
+use Rattle.texts.specs.declared.entry.Entry.{Entry}
 use Rattle.texts.specs.declared.register.Register.{Register}
 use Rattle.texts.specs.declared.slip.Slip.{Slip}
 use Rattle.texts.proofs.Steps.{both, and}
@@ -38,32 +38,32 @@ costs zero s = s .amount
 costs (suc g) s = 0
 
 -- the shop at a position, of those of a register
-abbrev pub shopIn : List Listed → ℕ → Listed
-shopIn us p = getD us p (record { code = record { digits = []; len = 0 }; opening = 0 })
+abbrev pub shopIn : List Entry → ℕ → Entry
+shopIn us p = getD us p (record { code = record { digits = []; len = 0 }; number = 0 })
 
-unfoldable pub brings : List Listed → ℕ → ℕ → Slip → ℕ
+unfoldable pub brings : List Entry → ℕ → ℕ → Slip → ℕ
 brings us p zero s = elim (sameCode (s .payee) (shopIn us p .code)) [ true ↦ s .amount | false ↦ 0 ]
 brings us p (suc g) s = 0
 
-unfoldable pub stock : List Listed → ℕ → ℕ → ℕ
-stock us p zero = shopIn us p .opening
+unfoldable pub stock : List Entry → ℕ → ℕ → ℕ
+stock us p zero = shopIn us p .number
 stock us p (suc g) = 0
 
 -- The dependencies, as one number per shop.
-abbrev pub needsOf : List Listed → Slip → List ℕ
-needsOf us s = map (λ (l : Listed). numberFor (depsOf s) (l .code)) us
+abbrev pub needsOf : List Entry → Slip → List ℕ
+needsOf us s = map (λ (l : Entry). numberFor (depsOf s) (l .code)) us
 
-unfoldable pub met : ℕ → List Listed → (ℕ → ℕ) → Slip → Bool
+unfoldable pub met : ℕ → List Entry → (ℕ → ℕ) → Slip → Bool
 met n us a s = every n (λ q. leb (getD (needsOf us s) q 0) (a q))
 
-pub stays : (n : ℕ) (us : List Listed) (a b : ℕ → ℕ) → ((q : ℕ) → q < n → a q ≤ b q) → (s : Slip) → met n us a s ≡ true → met n us b s ≡ true
+pub stays : (n : ℕ) (us : List Entry) (a b : ℕ → ℕ) → ((q : ℕ) → q < n → a q ≤ b q) → (s : Slip) → met n us a s ≡ true → met n us b s ≡ true
 unfolding met
 stays n us a b h s e =
     let test : (ℕ → ℕ) → ℕ → Bool = λ c q. leb (getD (needsOf us s) q 0) (c q) in
     at-every n (test b) (λ q l. le-leb (getD (needsOf us s) q 0) (b q) (omega (arith, leb-true (getD (needsOf us s) q 0) (a q) (every-at n (test a) e q l), h q l)))
 
 -- It rests on the number of shops, their codes and their openings, in their order.
-abbrev pub trade : ℕ → List Listed → Trade
+abbrev pub trade : ℕ → List Entry → Trade
 trade n us =
     record {
       Paper = Slip;

@@ -10,7 +10,8 @@ use lib.Dec.{eqb}
 use native.Mathlib.Decide.{decLt}
 use borrow.Author.Tests.{eqb-true}
 use Rattle.texts.specs.Bytes.{allOf}
-use Rattle.texts.specs.declared.register.Listed.{Listed}
+use Rattle.texts.specs.Register.{opening}
+use Rattle.texts.specs.declared.entry.Entry.{Entry}
 use Rattle.texts.specs.declared.register.Register.{Register}
 use Rattle.texts.specs.declared.slip.Slip.{Slip}
 use Rattle.texts.proofs.Steps.{both, all-zeros}
@@ -97,7 +98,7 @@ ledger-fits a p h =
 
 pub conserved : Conserved
 conserved a =
-    subst (λ (r : Register). sumTo (r .count) (λ p. shopAt (now a) p .balance) ≡ sumTo (r .count) (λ p. listedAt r p .opening)) (register a)
+    subst (λ (r : Register). sumTo (r .count) (λ p. shopAt (now a) p .balance) ≡ sumTo (r .count) (λ p. opening (listedAt r p))) (register a)
     (parts (now a) (at-rest a .inv .counted .lawful) .sums)
 
 -- ---- two terminals
@@ -107,7 +108,7 @@ unfolding Least
 arrival-order-does-not-matter a b same pre =
     least a (tookOf b) (appliedOf b) pre
     (λ p h. applied-are-first b p (omega (arith, same .count)))
-    (subst₂ (λ (n : ℕ) (us : List Listed). Settled (trade n us) (tookOf b) (appliedOf b)) (sym (same .count)) (sym (same .shops)) (settled b))
+    (subst₂ (λ (n : ℕ) (us : List Entry). Settled (trade n us) (tookOf b) (appliedOf b)) (sym (same .count)) (sym (same .shops)) (settled b))
 
 -- an unused place of a line
 blank-waiting : (w : Waiting) → zeroWaiting w ≡ true → w ≡ noWaiting
@@ -122,7 +123,7 @@ blank-waiting w e =
 same-waiting : (r r′ : Register) (x : Slip) → r .count ≡ r′ .count → r .shops ≡ r′ .shops → waitingOf r x ≡ waitingOf r′ x
 unfolding waitingOf
 same-waiting r r′ x c e =
-    let f : ℕ → List Listed → Waiting = λ n us. waitingOf (record { own = r .own; count = n; shops = us }) x in
+    let f : ℕ → List Entry → Waiting = λ n us. waitingOf (record { own = r .own; count = n; shops = us }) x in
     ap₂ f c e
 
 module _ (a b : Terminal) (same : SameShops a b) (took : (p : ℕ) → p < shopCount (start a) → tookOf a p ≡ tookOf b p) where
@@ -155,14 +156,14 @@ module _ (a b : Terminal) (same : SameShops a b) (took : (p : ℕ) → p < shopC
   same-balance p h =
       let u = start a .register in
       let v = start b .register in
-      let listed : listedAt u p ≡ listedAt v p = ap (λ (us : List Listed). getD us p (record { code = record { digits = []; len = 0 }; opening = 0 })) (same .shops) in
+      let listed : listedAt u p ≡ listedAt v p = ap (λ (us : List Entry). getD us p (record { code = record { digits = []; len = 0 }; number = 0 })) (same .shops) in
       omega (
         arith,
         ledger a p h,
         ledger b p (over p h),
         ap paidBy (same-applied p h),
-        ap (λ (l : Listed). l .opening) listed,
-        sum-same (u .count) (λ q. receivedBy (listedAt u p .code) (appliedOf a q)) (λ q. receivedBy (listedAt v p .code) (appliedOf b q)) (λ q l. ap₂ (λ (x : Listed) (y : List Slip). receivedBy (x .code) y) listed (same-applied q l)),
+        ap (λ (l : Entry). l .number) listed,
+        sum-same (u .count) (λ q. receivedBy (listedAt u p .code) (appliedOf a q)) (λ q. receivedBy (listedAt v p .code) (appliedOf b q)) (λ q l. ap₂ (λ (x : Entry) (y : List Slip). receivedBy (x .code) y) listed (same-applied q l)),
         ap (λ (n : ℕ). sumTo n (λ q. receivedBy (listedAt v p .code) (appliedOf b q))) (same .count),
       )
 

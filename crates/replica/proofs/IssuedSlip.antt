@@ -11,12 +11,12 @@ use borrow.Author.Tests.{eqb-true, eqb-false, ltb-true, ltb-false, lt-ltb, le-le
 use Rattle.texts.specs.Bytes.{allOf}
 use Rattle.texts.specs.Answers.{Meaning, answerOf}
 use Rattle.texts.specs.Code.{code, sameCode, codeOf}
+use Rattle.texts.specs.Entries.{noEntry}
 use Rattle.texts.specs.Register.{shopLine, place, twins, shopsOf, position, listed}
-use Rattle.texts.specs.Slip.{noDep, depLine, slipLayout, depsOf}
+use Rattle.texts.specs.Slip.{depLine, slipLayout, depsOf}
 use Rattle.texts.specs.Lines.{six}
-use Rattle.texts.specs.declared.register.Listed.{Listed}
+use Rattle.texts.specs.declared.entry.Entry.{Entry}
 use Rattle.texts.specs.declared.register.Register.{Register}
-use Rattle.texts.specs.declared.slip.Dep.{Dep}
 use Rattle.texts.proofs.Firsts.{zero-first, no-rows}
 use Rattle.texts.proofs.LawsTexts.{same-code}
 use Rattle.texts.proofs.Steps.{both, and, nor, all-zeros, all-at}
@@ -34,7 +34,7 @@ use Rattle.replica.proofs.Opened.{map-drop, map-replicate}
 use Rattle.replica.proofs.Back.{place-self, from-zeros}
 
 -- one shop more in front
-unshift : (u : Listed) (us : List Listed) (k : ℕ) (ds : List Dep) → length us ≤ place us (u .code) → Up us k ds → Up (u ∷ us) (suc k) ds
+unshift : (u : Entry) (us : List Entry) (k : ℕ) (ds : List Entry) → length us ≤ place us (u .code) → Up us k ds → Up (u ∷ us) (suc k) ds
 unfolding Up
 unshift u us k [] h x = tt
 unshift u us k (d ∷ ds) h (a, b, c, t) = go (sameCode (u .code) (d .code)) refl (unshift u us (suc (place us (d .code))) ds h t)
@@ -45,12 +45,12 @@ unshift u us k (d ∷ ds) h (a, b, c, t) = go (sameCode (u .code) (d .code)) ref
         let p = place-later u us (d .code) e in
         (omega arith, omega arith, c, subst (λ (n : ℕ). Up (u ∷ us) (suc n) ds) (sym p) ih)
 
-lower : (us : List Listed) (k : ℕ) (ds : List Dep) → Up us k ds → Up us 0 ds
+lower : (us : List Entry) (k : ℕ) (ds : List Entry) → Up us k ds → Up us 0 ds
 unfolding Up
 lower us k [] h = tt
 lower us k (d ∷ ds) (a, b, c, t) = (omega arith, b, c, t)
 
-pub from-up : (us : List Listed) (ns : List ℕ) → twins us ≡ false → Up us 0 (depsFrom us ns)
+pub from-up : (us : List Entry) (ns : List ℕ) → twins us ≡ false → Up us 0 (depsFrom us ns)
 unfolding Up depsFrom
 from-up [] ns t = tt
 from-up (u ∷ us) [] t = tt
@@ -64,7 +64,7 @@ from-up (u ∷ us) (suc m ∷ ns) t =
     (omega arith, omega arith, omega arith, subst (λ (n : ℕ). Up (u ∷ us) (suc n) (depsFrom us ns)) (sym p) r)
 
 -- what holds of each shop with its number, where that is not 0, holds of each dependency
-pub from-all : (z : Listed) (Q : Dep → Bool) (us : List Listed) (ns : List ℕ)
+pub from-all : (z : Entry) (Q : Entry → Bool) (us : List Entry) (ns : List ℕ)
     → ((j : ℕ) → j < length us → 0 < getD ns j 0 → Q (record { code = getD us j z .code; number = getD ns j 0 }) ≡ true) → allOf Q (depsFrom us ns) ≡ true
 unfolding depsFrom allOf
 from-all z Q [] ns h = refl
@@ -72,7 +72,7 @@ from-all z Q (u ∷ us) [] h = refl
 from-all z Q (u ∷ us) (zero ∷ ns) h = from-all z Q us ns (λ j l p. h (suc j) (omega arith) p)
 from-all z Q (u ∷ us) (suc m ∷ ns) h = and _ _ (h 0 (omega arith) (omega arith)) (from-all z Q us ns (λ j l p. h (suc j) (omega arith) p))
 
-from-most : (us : List Listed) (ns : List ℕ) → length (depsFrom us ns) ≤ length us
+from-most : (us : List Entry) (ns : List ℕ) → length (depsFrom us ns) ≤ length us
 unfolding depsFrom
 from-most [] ns = omega arith
 from-most (u ∷ us) [] = omega arith
@@ -80,7 +80,7 @@ from-most (u ∷ us) (zero ∷ ns) = omega (arith, from-most us ns)
 from-most (u ∷ us) (suc m ∷ ns) = omega (arith, from-most us ns)
 
 -- one shop has no number, so there is one dependency fewer
-pub from-fewer : (us : List Listed) (ns : List ℕ) (i : ℕ) → i < length us → getD ns i 0 ≡ 0 → length (depsFrom us ns) < length us
+pub from-fewer : (us : List Entry) (ns : List ℕ) (i : ℕ) → i < length us → getD ns i 0 ≡ 0 → length (depsFrom us ns) < length us
 unfolding depsFrom
 from-fewer [] ns i h z = absurd (omega arith)
 from-fewer (u ∷ us) [] i h z = omega arith
@@ -88,7 +88,7 @@ from-fewer (u ∷ us) (zero ∷ ns) i h z = omega (arith, from-most us ns)
 from-fewer (u ∷ us) (suc m ∷ ns) zero h z = absurd (omega arith)
 from-fewer (u ∷ us) (suc m ∷ ns) (suc i) h z = omega (arith, from-fewer us ns i (omega arith) z)
 
-pub up-rising : (r : Register) (payer least : ℕ) (ds : List Dep) → Up (shopsOf r) least ds → allOf (λ (d : Dep). not (eqb (position r (d .code)) payer)) ds ≡ true
+pub up-rising : (r : Register) (payer least : ℕ) (ds : List Entry) → Up (shopsOf r) least ds → allOf (λ (d : Entry). not (eqb (position r (d .code)) payer)) ds ≡ true
     → rising r payer least ds ≡ true
 unfolding Up rising allOf
 up-rising r payer least [] u w = refl
@@ -135,19 +135,19 @@ module _ (self : Replica) (P : Parts self) where
 
   pub deps : depsFrom (self .register .shops) (marks self) ≡ depsFrom (shopsOf (self .register)) (inUse self)
   deps =
-      ap₂ (λ (l : List Listed) (m : List ℕ). depsFrom l m) (sym (take-append-drop (shopCount self) (self .register .shops))) split
+      ap₂ (λ (l : List Entry) (m : List ℕ). depsFrom l m) (sym (take-append-drop (shopCount self) (self .register .shops))) split
       ∙ from-zeros (shopsOf (self .register)) (drop (shopCount self) (self .register .shops)) (inUse self) (16 - shopCount self) same-length
 
   ownBelow : own self < shopCount self
   ownBelow = below (self .register) (self .register .own) R (R .own)
 
-  abbrev blank : Listed
-  blank = record { code = record { digits = []; len = 0 }; opening = 0 }
+  abbrev blank : Entry
+  blank = record { code = record { digits = []; len = 0 }; number = 0 }
 
-  abbrev us : List Listed
+  abbrev us : List Entry
   us = shopsOf (self .register)
 
-  abbrev ds : List Dep
+  abbrev ds : List Entry
   ds = depsFrom us (inUse self)
 
   at-place : (j : ℕ) → j < length us → place us (getD us j blank .code) ≡ j
@@ -161,17 +161,17 @@ module _ (self : Replica) (P : Parts self) where
       let q : j < shopCount self = omega (arith, used) in
       let m = mark-at j q in
       let L = P .lined j q in
-      let c = both (code 58 .legal (getD us j blank .code)) (six .legal (getD us j blank .opening)) (all-at (shopLine .legal) us blank j (R .fits .used) l) in
+      let c = both (code 58 .legal (getD us j blank .code)) (six .legal (getD us j blank .number)) (all-at (shopLine .legal) us blank j (R .fits .used) l) in
       and _ _ (c .0) (and _ _ (and _ _ (le-leb 0 (getD (inUse self) j 0) (omega arith)) (le-leb (getD (inUse self) j 0) 999999 (omega (arith, L .mark, L .taken, L .most)))) refl))
 
-  known : allOf (λ (d : Dep). listed (self .register) (d .code)) ds ≡ true
-  known = from-all blank (λ (d : Dep). listed (self .register) (d .code)) us (inUse self) (λ j l p. lt-ltb _ (length us) (omega (arith, at-place j l)))
+  known : allOf (λ (d : Entry). listed (self .register) (d .code)) ds ≡ true
+  known = from-all blank (λ (d : Entry). listed (self .register) (d .code)) us (inUse self) (λ j l p. lt-ltb _ (length us) (omega (arith, at-place j l)))
 
-  positive : allOf (λ (d : Dep). ltb 0 (d .number)) ds ≡ true
-  positive = from-all blank (λ (d : Dep). ltb 0 (d .number)) us (inUse self) (λ j l p. lt-ltb 0 _ p)
+  positive : allOf (λ (d : Entry). ltb 0 (d .number)) ds ≡ true
+  positive = from-all blank (λ (d : Entry). ltb 0 (d .number)) us (inUse self) (λ j l p. lt-ltb 0 _ p)
 
-  without : allOf (λ (d : Dep). not (eqb (position (self .register) (d .code)) (own self))) ds ≡ true
-  without = from-all blank (λ (d : Dep). not (eqb (position (self .register) (d .code)) (own self))) us (inUse self) (λ j l p.
+  without : allOf (λ (d : Entry). not (eqb (position (self .register) (d .code)) (own self))) ds ≡ true
+  without = from-all blank (λ (d : Entry). not (eqb (position (self .register) (d .code)) (own self))) us (inUse self) (λ j l p.
       ap not (ne-eqb _ (own self) (λ e.
       let i : j ≡ own self = sym (at-place j l) ∙ e in
       let z : getD (inUse self) j 0 ≡ 0 = ap (λ (k : ℕ). getD (inUse self) k 0) i ∙ mark-at (own self) ownBelow ∙ P .ownMark in
@@ -185,14 +185,14 @@ module _ (self : Replica) (P : Parts self) where
       (left : eqb (ownShop self .applied) 999999 ≡ false) where
     same : depsOf (issuedSlip self payee amount) ≡ ds
     unfolding issuedSlip
-    same = let d = depsFrom (self .register .shops) (marks self) in take-at d (replicate (15 - length d) noDep) (length d) refl ∙ deps
+    same = let d = depsFrom (self .register .shops) (marks self) in take-at d (replicate (16 - length d) noEntry) (length d) refl ∙ deps
 
     payeeCode : code 10 .legal (codeOf payee) ≡ true
     payeeCode =
         let p = position (self .register) (codeOf payee) in
         let h = ltb-true p (length us) listed? in
         let c = place-at us (codeOf payee) blank h in
-        ap (code 10 .legal) (sym c) ∙ both (code 58 .legal (getD us p blank .code)) (six .legal (getD us p blank .opening)) (all-at (shopLine .legal) us blank p (R .fits .used) h) .0
+        ap (code 10 .legal) (sym c) ∙ both (code 58 .legal (getD us p blank .code)) (six .legal (getD us p blank .number)) (all-at (shopLine .legal) us blank p (R .fits .used) h) .0
 
     pub issued-passes : answerOf (slipRows (self .register) (issuedSlip self payee amount)) ≡ 0
     unfolding issuedSlip range? shop? deps?
@@ -204,7 +204,7 @@ module _ (self : Replica) (P : Parts self) where
         ap (λ d. slipLayout .legal (slipWith (self .register .own) (ownShop self .applied + 1) (codeOf payee) amount d)) deps
         ∙ legal-slip (self .register .own) (ownShop self .applied + 1) (codeOf payee) amount ds (R .fits .ownCode) payeeCode n most fifteen legal in
         zero-first Meaning.form _ _ (ap not f)
-        (zero-first Meaning.range _ _ (nor _ _ (ne-eqb (ownShop self .applied + 1) 0 (λ e. omega arith)) (nor _ _ (ne-eqb amount 0 (λ e. omega arith)) (ap not (ap (allOf (λ (d : Dep). ltb 0 (d .number))) same ∙ positive))))
-        (zero-first Meaning.shop _ _ (ap not (and _ _ (R .own) (and _ _ listed? (ap (allOf (λ (d : Dep). listed (self .register) (d .code))) same ∙ known))))
+        (zero-first Meaning.range _ _ (nor _ _ (ne-eqb (ownShop self .applied + 1) 0 (λ e. omega arith)) (nor _ _ (ne-eqb amount 0 (λ e. omega arith)) (ap not (ap (allOf (λ (d : Entry). ltb 0 (d .number))) same ∙ positive))))
+        (zero-first Meaning.shop _ _ (ap not (and _ _ (R .own) (and _ _ listed? (ap (allOf (λ (d : Entry). listed (self .register) (d .code))) same ∙ known))))
         (zero-first Meaning.oneself _ _ another
         (zero-first Meaning.deps _ _ (ap not (ap (rising (self .register) (own self) 0) same ∙ rises)) no-rows))))

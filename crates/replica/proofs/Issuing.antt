@@ -11,18 +11,18 @@ use lib.Dec.{ltb, eqb}
 use borrow.Author.Tests.{lt-ltb, le-ltb, eq-eqb, ne-eqb, eqb-false, ltb-false, not-false}
 use Rattle.texts.specs.Answers.{Meaning, answerOf}
 use Rattle.texts.specs.Code.{sameCode, codeOf}
+use Rattle.texts.specs.Entries.{noEntry}
 use Rattle.texts.specs.Register.{position, listed}
-use Rattle.texts.specs.Slip.{noDep, slipWriteAnswer, slipWritten, slipBuffer}
+use Rattle.texts.specs.Slip.{slipWriteAnswer, slipWritten, slipBuffer}
 use Rattle.texts.specs.Written.{over}
 use Rattle.texts.specs.declared.code.Code.{Code}
-use Rattle.texts.specs.declared.register.Listed.{Listed}
+use Rattle.texts.specs.declared.entry.Entry.{Entry}
 use Rattle.texts.specs.declared.register.Register.{Register}
-use Rattle.texts.specs.declared.slip.Dep.{Dep}
 use Rattle.texts.specs.declared.slip.Slip.{Slip}
 use Rattle.texts.specs.declared.pen.Written.{Written}
-use Rattle.texts.proofs.Firsts.{first-zero, zero-first, no-rows}
+use Rattle.texts.proofs.Firsts.{first-zero, no-rows}
 use Rattle.texts.proofs.Steps.{neither, nor}
-use Rattle.texts.proofs.WritingTexts.{slip-put, form-there}
+use Rattle.texts.proofs.WritingTexts.{slip-zero, slip-put}
 use Rattle.texts.proofs.Legal.{register-legal}
 use Rattle.texts.proofs.Values.{left-of, row-applies, row-passed}
 use Rattle.replica.specs.declared.record.Shop.{Shop}
@@ -147,7 +147,7 @@ module _ {A : Type 0} {f : A → A} {xs ys : List A} {i : ℕ} (c : Changed f xs
 -- ---- marks as dependencies
 
 -- shops with their numbers, and further shops with theirs
-from-both : (us vs : List Listed) (ns ms : List ℕ) → length ns ≡ length us → depsFrom (us ++ vs) (ns ++ ms) ≡ depsFrom us ns ++ depsFrom vs ms
+from-both : (us vs : List Entry) (ns ms : List ℕ) → length ns ≡ length us → depsFrom (us ++ vs) (ns ++ ms) ≡ depsFrom us ns ++ depsFrom vs ms
 unfolding depsFrom
 from-both [] vs [] ms h = refl
 from-both [] vs (n ∷ ns) ms h = absurd (omega arith)
@@ -156,48 +156,48 @@ from-both (u ∷ us) vs (zero ∷ ns) ms h = from-both us vs ns ms (omega arith)
 from-both (u ∷ us) vs (suc n ∷ ns) ms h = ap (λ l. record { code = u .code; number = suc n } ∷ l) (from-both us vs ns ms (omega arith))
 
 -- one shop whose number is 0, and one whose number is not
-from-zero : (u : Listed) (n : ℕ) → n ≡ 0 → depsFrom (u ∷ []) (n ∷ []) ≡ []
+from-zero : (u : Entry) (n : ℕ) → n ≡ 0 → depsFrom (u ∷ []) (n ∷ []) ≡ []
 unfolding depsFrom
 from-zero u zero h = refl
 from-zero u (suc n) h = absurd (omega arith)
 
-from-number : (u : Listed) (n : ℕ) → (n ≡ 0 → ⊥) → depsFrom (u ∷ []) (n ∷ []) ≡ record { code = u .code; number = n } ∷ []
+from-number : (u : Entry) (n : ℕ) → (n ≡ 0 → ⊥) → depsFrom (u ∷ []) (n ∷ []) ≡ record { code = u .code; number = n } ∷ []
 unfolding depsFrom
 from-number u zero h = absurd (h refl)
 from-number u (suc n) h = refl
 
 -- the dependencies on the first i shops
-abbrev firstDeps : List Listed → List ℕ → ℕ → List Dep
+abbrev firstDeps : List Entry → List ℕ → ℕ → List Entry
 firstDeps us ns i = depsFrom (take i us) (take i ns)
 
 -- no more than all
-front-few : (us : List Listed) (ns : List ℕ) (i : ℕ) → length ns ≡ length us → length (firstDeps us ns i) ≤ length (depsFrom us ns)
+front-few : (us : List Entry) (ns : List ℕ) (i : ℕ) → length ns ≡ length us → length (firstDeps us ns i) ≤ length (depsFrom us ns)
 front-few us ns i h =
     let same : length (take i ns) ≡ length (take i us) = length-take i ns ∙ ap (λ k. min i k) h ∙ sym (length-take i us) in
     let split : depsFrom us ns ≡ firstDeps us ns i ++ depsFrom (drop i us) (drop i ns) =
-    ap₂ (λ (u : List Listed) (n : List ℕ). depsFrom u n) (sym (take-append-drop i us)) (sym (take-append-drop i ns)) ∙ from-both (take i us) (drop i us) (take i ns) (drop i ns) same in
+    ap₂ (λ (u : List Entry) (n : List ℕ). depsFrom u n) (sym (take-append-drop i us)) (sym (take-append-drop i ns)) ∙ from-both (take i us) (drop i us) (take i ns) (drop i ns) same in
     omega (arith, ap length split, length-append (firstDeps us ns i) (depsFrom (drop i us) (drop i ns)))
 
 -- what the checker has past the last shop of a register
-abbrev pub blank : Listed
-blank = record { code = record { digits = []; len = 0 }; opening = 0 }
+abbrev pub blank : Entry
+blank = record { code = record { digits = []; len = 0 }; number = 0 }
 
 -- the first places of ds are the dependencies on the first i shops, `count` of them, and the other places are zero
-pub record Marked (us : List Listed) (ss : List Shop) (ds : List Dep) (count i : ℕ) : Type 0 where
+pub record Marked (us : List Entry) (ss : List Shop) (ds : List Entry) (count i : ℕ) : Type 0 where
   pub listed : length us ≡ 16
   pub shops : length ss ≡ 16
   pub most : length (depsFrom us (marksOf ss)) ≤ 15
   pub within : i ≤ 16
   pub size : count ≡ length (firstDeps us (marksOf ss) i)
-  pub holds : ds ≡ firstDeps us (marksOf ss) i ++ replicate (15 - count) noDep
+  pub holds : ds ≡ firstDeps us (marksOf ss) i ++ replicate (16 - count) noEntry
 
 -- no shop is asked yet
-pub marked-none : (us : List Listed) (ss : List Shop) (ds : List Dep) → length us ≡ 16 → length ss ≡ 16 → length (depsFrom us (marksOf ss)) ≤ 15 → ds ≡ replicate 15 noDep
+pub marked-none : (us : List Entry) (ss : List Shop) (ds : List Entry) → length us ≡ 16 → length ss ≡ 16 → length (depsFrom us (marksOf ss)) ≤ 15 → ds ≡ replicate 16 noEntry
     → Marked us ss ds 0 0
 unfolding depsFrom
 marked-none us ss ds h l m e = record { listed = h; shops = l; most = m; within = omega arith; size = refl; holds = e }
 
-module _ {us : List Listed} {ss : List Shop} {ds : List Dep} {count i : ℕ} (m : Marked us ss ds count i) where
+module _ {us : List Entry} {ss : List Shop} {ds : List Entry} {count i : ℕ} (m : Marked us ss ds count i) where
   -- as many marks as shops
   marks-size : length (marksOf ss) ≡ 16
   marks-size = length-map ss (λ (s : Shop). s .mark) ∙ m .shops
@@ -207,9 +207,9 @@ module _ {us : List Listed} {ss : List Shop} {ds : List Dep} {count i : ℕ} (m 
       → _≡_ {A = Slip} (record { payer = payer; number = number; payee = payee; amount = amount; count = count; deps = ds }) (slipWith payer number payee amount (depsFrom us (marksOf ss)))
   slip-marked payer number payee amount h =
       let ns : List ℕ = marksOf ss in
-      let k : firstDeps us ns i ≡ depsFrom us ns = ap₂ (λ (u : List Listed) (n : List ℕ). depsFrom u n) (take-all i us (omega (arith, m .listed))) (take-all i ns (omega (arith, marks-size))) in
+      let k : firstDeps us ns i ≡ depsFrom us ns = ap₂ (λ (u : List Entry) (n : List ℕ). depsFrom u n) (take-all i us (omega (arith, m .listed))) (take-all i ns (omega (arith, marks-size))) in
       let s : count ≡ length (depsFrom us ns) = m .size ∙ ap length k in
-      ap₂ (λ c d. record { payer = payer; number = number; payee = payee; amount = amount; count = c; deps = d }) s (m .holds ∙ ap₂ (λ l n. l ++ replicate (15 - n) noDep) k s)
+      ap₂ (λ c d. record { payer = payer; number = number; payee = payee; amount = amount; count = c; deps = d }) s (m .holds ∙ ap₂ (λ l n. l ++ replicate (16 - n) noEntry) k s)
 
   module _ (h : i < 16) where
     -- the mark of the shop at i
@@ -226,13 +226,13 @@ module _ {us : List Listed} {ss : List Shop} {ds : List Dep} {count i : ℕ} (m 
         let d = length-take-le i ns (omega arith) in
         let p : take (i + 1) us ≡ take i us ++ (getD us i blank ∷ []) = rw (add-one, take-suc us i blank) in
         let q : take (i + 1) ns ≡ take i ns ++ (getD ns i 0 ∷ []) = rw (add-one, take-suc ns i 0) in
-        ap₂ (λ (u : List Listed) (v : List ℕ). depsFrom u v) p (q ∙ ap (λ k. take i ns ++ (k ∷ [])) (List·getD-map (λ (s : Shop). s .mark) ss i noShop))
+        ap₂ (λ (u : List Entry) (v : List ℕ). depsFrom u v) p (q ∙ ap (λ k. take i ns ++ (k ∷ [])) (List·getD-map (λ (s : Shop). s .mark) ss i noShop))
         ∙ from-both (take i us) (getD us i blank ∷ []) (take i ns) (mark ∷ []) (d ∙ sym c)
 
     -- its mark is 0: nothing is added
-    pub marked-skip : mark ≡ 0 → (ds′ : List Dep) (count′ : ℕ) → ds′ ≡ ds → count′ ≡ count → Marked us ss ds′ count′ (i + 1)
+    pub marked-skip : mark ≡ 0 → (ds′ : List Entry) (count′ : ℕ) → ds′ ≡ ds → count′ ≡ count → Marked us ss ds′ count′ (i + 1)
     marked-skip e ds′ count′ p q =
-        let front : List Dep = firstDeps us (marksOf ss) i in
+        let front : List Entry = firstDeps us (marksOf ss) i in
         let k : firstDeps us (marksOf ss) (i + 1) ≡ front = marked-next ∙ ap (λ l. front ++ l) (from-zero (getD us i blank) mark e) ∙ append-nil front in
         record {
           listed = m .listed;
@@ -240,12 +240,12 @@ module _ {us : List Listed} {ss : List Shop} {ds : List Dep} {count i : ℕ} (m 
           most = m .most;
           within = omega arith;
           size = q ∙ m .size ∙ ap length (sym k);
-          holds = p ∙ m .holds ∙ ap₂ (λ l n. l ++ replicate (15 - n) noDep) (sym k) (sym q);
+          holds = p ∙ m .holds ∙ ap₂ (λ l n. l ++ replicate (16 - n) noEntry) (sym k) (sym q);
         }
 
     module _ (e : mark ≡ 0 → ⊥) where
       -- it is not 0: a dependency
-      abbrev dep : Dep
+      abbrev dep : Entry
       dep = record { code = getD us i blank .code; number = mark }
 
       -- one dependency more
@@ -257,15 +257,15 @@ module _ {us : List Listed} {ss : List Shop} {ds : List Dep} {count i : ℕ} (m 
       marked-count = omega (arith, m .size, ap length marked-longer, length-append (firstDeps us (marksOf ss) i) (dep ∷ []))
 
       -- there is room for it
-      pub marked-room : count < 15
+      pub marked-room : count < 16
       marked-room = omega (arith, marked-count, m .most, front-few us (marksOf ss) (i + 1) (marks-size ∙ sym (m .listed)))
 
       -- it goes after the others
-      pub marked-more : (ds′ : List Dep) (count′ : ℕ) → ds′ ≡ set ds count dep → count′ ≡ count + 1 → Marked us ss ds′ count′ (i + 1)
+      pub marked-more : (ds′ : List Entry) (count′ : ℕ) → ds′ ≡ set ds count dep → count′ ≡ count + 1 → Marked us ss ds′ count′ (i + 1)
       marked-more ds′ count′ p q =
-          let front : List Dep = firstDeps us (marksOf ss) i in
-          let rest : List Dep = replicate (15 - (count + 1)) noDep in
-          let k : 15 - count ≡ suc (15 - (count + 1)) = omega (arith, marked-room) in
+          let front : List Entry = firstDeps us (marksOf ss) i in
+          let rest : List Entry = replicate (16 - (count + 1)) noEntry in
+          let k : 16 - count ≡ suc (16 - (count + 1)) = omega (arith, marked-room) in
           record {
             listed = m .listed;
             shops = m .shops;
@@ -273,10 +273,10 @@ module _ {us : List Listed} {ss : List Shop} {ds : List Dep} {count i : ℕ} (m 
             within = omega arith;
             size = q ∙ marked-count;
             holds =
-                p ∙ ap (λ l. set l count dep) (m .holds ∙ ap (λ n. front ++ replicate n noDep) k)
-                ∙ set-at front noDep rest dep count (sym (m .size))
+                p ∙ ap (λ l. set l count dep) (m .holds ∙ ap (λ n. front ++ replicate n noEntry) k)
+                ∙ set-at front noEntry rest dep count (sym (m .size))
                 ∙ sym (ap (λ l. l ++ rest) marked-longer ∙ append-snoc front dep rest)
-                ∙ ap (λ n. firstDeps us (marksOf ss) (i + 1) ++ replicate (15 - n) noDep) (sym q);
+                ∙ ap (λ n. firstDeps us (marksOf ss) (i + 1) ++ replicate (16 - n) noEntry) (sym q);
           }
 
 -- ---- places of the register
@@ -364,7 +364,7 @@ module _ (self : Replica) (payee : List ℕ) (amount : ℕ) (buffer : List ℕ) 
             let positive = eqb-false amount 0 (amounts .0) in
             let p = issued-passes self (parts self law) payee amount (not-false _ (c2 .0)) (c3 .0) (omega arith) (ltb-false 999999 amount (amounts .1)) (c10 .0) in
             let legal = passed (self .register) (issuedSlip self payee amount) p .legal in
-            form-there (issuedSlip self payee amount) buffer true room (sym legal) ∙ zero-first Meaning.form false [] refl no-rows
+            slip-zero (issuedSlip self payee amount) buffer room legal
 
         module _ (s : Slip) (is : s ≡ slipWith (self .register .own) (mine .shop .applied + 1) code amount (depsFrom (self .register .shops) (marksOf (self .shops)))) where
           -- it is the slip to issue

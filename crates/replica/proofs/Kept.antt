@@ -9,6 +9,7 @@ use lib.ListN.{length, drop, getD, drop-of-length-le}
 use lib.Dec.{leb, ltb, eqb}
 use borrow.Author.Tests.{eqb-true, eqb-false, ltb-true, leb-true, lt-ltb, le-ltb, le-leb, eq-eqb, ne-eqb, not-true}
 use Rattle.texts.specs.Bytes.{allOf}
+use Rattle.texts.specs.Register.{opening}
 use Rattle.texts.specs.declared.register.Register.{Register}
 use Rattle.texts.proofs.Steps.{both, and}
 use Rattle.texts.proofs.Values.{fails, skip, left-of}
@@ -336,7 +337,7 @@ module _ (n p : ℕ) (s : Shop) (l : Line) where
 pub record Summed (r : Register) (shops : List Shop) (n openings balances i : ℕ) : Type 0 where
   pub all : n ≡ r .count
   pub within : i ≤ n
-  pub opened : openings ≡ sumTo i (λ p. listedAt r p .opening)
+  pub opened : openings ≡ sumTo i (λ p. opening (listedAt r p))
   pub held : balances ≡ sumTo i (λ p. getD shops p noShop .balance)
   pub few-opened : openings ≤ i * 4294967295
   pub few-held : balances ≤ i * 4294967295
@@ -348,14 +349,14 @@ summed-none r shops = record { all = refl; within = omega arith; opened = refl; 
 
 module _ {r : Register} {shops : List Shop} {n openings balances i : ℕ} (s : Summed r shops n openings balances i) where
   -- one more
-  pub summed-more : i < n → listedAt r i .opening ≤ 4294967295 → getD shops i noShop .balance ≤ 4294967295
-      → Summed r shops n (openings + listedAt r i .opening) (balances + getD shops i noShop .balance) (i + 1)
+  pub summed-more : i < n → opening (listedAt r i) ≤ 4294967295 → getD shops i noShop .balance ≤ 4294967295
+      → Summed r shops n (openings + opening (listedAt r i)) (balances + getD shops i noShop .balance) (i + 1)
   unfolding sumTo
   summed-more h a b =
       record {
         all = s .all;
         within = omega arith;
-        opened = ap (λ t. t + listedAt r i .opening) (s .opened) ∙ ap (λ k. sumTo k (λ p. listedAt r p .opening)) (sym (add-one i));
+        opened = ap (λ t. t + opening (listedAt r i)) (s .opened) ∙ ap (λ k. sumTo k (λ p. opening (listedAt r p))) (sym (add-one i));
         held = ap (λ t. t + getD shops i noShop .balance) (s .held) ∙ ap (λ k. sumTo k (λ p. getD shops p noShop .balance)) (sym (add-one i));
         few-opened = omega (arith, s .few-opened);
         few-held = omega (arith, s .few-held);
@@ -367,5 +368,5 @@ module _ {r : Register} {shops : List Shop} {n openings balances i : ℕ} (s : S
   summed-done h =
       let e : i ≡ r .count = omega (arith, s .all, s .within) in
       let a : balances ≡ sumTo (r .count) (λ p. getD shops p noShop .balance) = s .held ∙ ap (λ k. sumTo k (λ p. getD shops p noShop .balance)) e in
-      let b : openings ≡ sumTo (r .count) (λ p. listedAt r p .opening) = s .opened ∙ ap (λ k. sumTo k (λ p. listedAt r p .opening)) e in
+      let b : openings ≡ sumTo (r .count) (λ p. opening (listedAt r p)) = s .opened ∙ ap (λ k. sumTo k (λ p. opening (listedAt r p))) e in
       cc

@@ -10,7 +10,7 @@ use lib.Dec.{eqb}
 use borrow.Author.Tests.{eq-eqb}
 use Rattle.texts.specs.Register.{registerAnswer, registerRead}
 use Rattle.texts.specs.Slip.{depsOf}
-use Rattle.texts.specs.declared.register.Listed.{Listed}
+use Rattle.texts.specs.declared.entry.Entry.{Entry}
 use Rattle.texts.specs.declared.register.Register.{Register}
 use Rattle.texts.specs.declared.slip.Slip.{Slip}
 use Rattle.texts.proofs.Legal.{register-legal, read-legal}
@@ -58,8 +58,8 @@ pub needs-at : (self : Replica) → Parts self → (s : Slip) (r : ℕ) → r < 
 unfolding waitingOf
 needs-at self P s r h =
     let F = register-legal (self .register) (P .register) .fits in
-    let blank : Listed = record { code = record { digits = []; len = 0 }; opening = 0 } in
-    sym (map-at (λ (l : Listed). numberFor (depsOf s) (l .code)) (self .register .shops) r blank 0 (omega (arith, F .most, F .places)))
+    let blank : Entry = record { code = record { digits = []; len = 0 }; number = 0 } in
+    sym (map-at (λ (l : Entry). numberFor (depsOf s) (l .code)) (self .register .shops) r blank 0 (omega (arith, F .most, F .places)))
 
 -- the first slip of the shop at q
 abbrev pub firstTransfer : Replica → ℕ → Transfer

@@ -1,6 +1,6 @@
 -- Trial 2's slips at two counters: 71's terminal takes A and then B, 071's terminal B and then A. "Neither of you" is ahead.
-use mathlib.Core.Path.{_≡_, refl, sym, ap, ap₂, _∙_, subst₂}
-use mathlib.Core.Bool.{Bool, true}
+use mathlib.Core.Path.{_≡_, refl, sym, ap, _∙_, subst₂}
+use mathlib.Core.Bool.{Bool, true, _&&_}
 use mathlib.Core.List.{List, [], _∷_, _++_}
 use Prim.Native.Nat.{ℕ, zero, suc, _<_}
 use native.Mathlib.Omega.{arith}
@@ -12,11 +12,10 @@ use Rattle.texts.specs.Layout.{past, joined, several, whole}
 use Rattle.texts.specs.Leaf.{digits, oneMore, numeral, run}
 use Rattle.texts.specs.Code.{sameCode}
 use Rattle.texts.specs.Answers.{first}
-use Rattle.texts.specs.Register.{registerLayout, registerIn, place, position, twins, registerAnswer, registerTextAnswer, registerRead}
+use Rattle.texts.specs.Register.{registerLayout, registerIn, place, twins, registerAnswer, registerTextAnswer, registerRead}
 use Rattle.texts.specs.Slip.{slipLayout, slipIn, slipRead}
-use Rattle.texts.specs.declared.register.Register.{Register}
 use Rattle.texts.specs.declared.slip.Slip.{Slip}
-use Rattle.texts.proofs.Steps.{all-at}
+use Rattle.texts.proofs.Steps.{both, all-at}
 use Rattle.replica.specs.declared.record.Replica.{Replica}
 use Rattle.replica.specs.Record.{shopCount, sumTo, every}
 use Rattle.replica.specs.Slips.{numberFor, waitingOf, depsFrom, slipOf}
@@ -25,11 +24,11 @@ use Rattle.replica.specs.State.{allTrue, lineKept, numberedOn, paidBySho
 use Rattle.replica.specs.Settle.{ready, apply, scan, settle, order, waits}
 use Rattle.replica.specs.Open.{fresh, opened}
 use Rattle.replica.specs.Take.{slipFrom, payerOf, takeRows, takeAnswer, entered, taken}
-use Rattle.replica.specs.Calls.{take, call, after, Lines, noSlips, noted, tookIn, takenFrom, takenIn}
+use Rattle.replica.specs.Calls.{take, call, after, Lines, noSlips, noted, tookIn, takenFrom}
 use Rattle.replica.specs.Demand.{Terminal, start, now, tookOf, appliedOf, SameShops, SameAt, Begins, AllBegin}
 use Rattle.replica.specs.Trials.{lent, example, A, B}
 use Rattle.replica.proofs.Reached.{noted-there}
-use Rattle.replica.proofs.Runs.{call-register, took-noted}
+use Rattle.replica.proofs.Runs.{took-noted}
 use Rattle.replica.proofs.Demand.{arrival-order-does-not-matter, same-slips-same-states}
 
 at071 : List ℕ
@@ -63,28 +62,24 @@ shops-earlier = record { count = shops .count; shops = shops .shops }
 
 -- ---- what they took in
 
--- two slips, both accepted
-two-taken : (self : Replica) (x y : List ℕ) (p q : ℕ) → payerOf self (slipFrom x) ≡ p → payerOf self (slipFrom y) ≡ q
-    → takeAnswer self x lent ≡ 0 → takeAnswer (after self (take x lent)) y lent ≡ 0
-    → takenIn self (take x lent ∷ take y lent ∷ []) ≡ noted q (slipFrom y) (noted p (slipFrom x) noSlips)
-unfolding takenFrom
-two-taken self x y p q i j e f =
-    let k : payerOf (after self (take x lent)) (slipFrom y) ≡ q = ap (λ (r : Register). position r (slipFrom y .payer)) (call-register self (take x lent)) ∙ j in
-    took-noted (after self (take x lent)) y lent (tookIn self (take x lent) noSlips) f
-    ∙ ap₂ (λ (b : ℕ) (l : Lines). noted b (slipFrom y) l) k (took-noted self x lent noSlips e ∙ ap (λ (b : ℕ). noted b (slipFrom x) noSlips) i)
+-- is the slip accepted, and paid by the shop at p
+abbrev accepts : Replica → List ℕ → ℕ → Bool
+accepts self text p = eqb (payerOf self (slipFrom text)) p && eqb (takeAnswer self text lent) 0
+
+-- it is noted for that shop
+one-taken : (self : Replica) (text : List ℕ) (p : ℕ) (l : Lines) → accepts self text p ≡ true → tookIn self (take text lent) l ≡ noted p (slipFrom text) l
+one-taken self text p l h =
+    let k = both (eqb (payerOf self (slipFrom text)) p) _ h in
+    took-noted self text lent l (eqb-true _ 0 (k .1)) ∙ ap (λ (b : ℕ). noted b (slipFrom text) l) (eqb-true _ p (k .0))
 
 -- every position and every answer, computed
 tests : List Bool
 tests =
     eqb (shopCount (start his)) 3 ∷
-    eqb (payerOf (start his) (slipFrom A)) 1 ∷
-    eqb (payerOf (start his) (slipFrom B)) 0 ∷
-    eqb (payerOf (start hers) (slipFrom A)) 1 ∷
-    eqb (payerOf (start hers) (slipFrom B)) 0 ∷
-    eqb (takeAnswer (start his) A lent) 0 ∷
-    eqb (takeAnswer (after (start his) (take A lent)) B lent) 0 ∷
-    eqb (takeAnswer (start hers) B lent) 0 ∷
-    eqb (takeAnswer (after (start hers) (take B lent)) A lent) 0 ∷
+    accepts (start his) A 1 ∷
+    accepts (after (start his) (take A lent)) B 0 ∷
+    accepts (start hers) B 0 ∷
+    accepts (after (start hers) (take B lent)) A 1 ∷
     []
 
 computed : allOf (λ (b : Bool). b) tests ≡ true
@@ -102,29 +97,19 @@ three-earlier : shopCount (start earlier) ≡ 3
 unfolding his earlier
 three-earlier = three
 
-his-lines : tookOf his ≡ noted 0 (slipFrom B) (noted 1 (slipFrom A) noSlips)
-unfolding tests his
-his-lines =
-    two-taken (start his) A B 1 0
-    (eqb-true _ 1 (test-at 1 (omega arith)))
-    (eqb-true _ 0 (test-at 2 (omega arith)))
-    (eqb-true _ 0 (test-at 5 (omega arith)))
-    (eqb-true _ 0 (test-at 6 (omega arith)))
-
-hers-lines : tookOf hers ≡ noted 1 (slipFrom A) (noted 0 (slipFrom B) noSlips)
-unfolding tests hers
-hers-lines =
-    two-taken (start hers) B A 0 1
-    (eqb-true _ 0 (test-at 4 (omega arith)))
-    (eqb-true _ 1 (test-at 3 (omega arith)))
-    (eqb-true _ 0 (test-at 7 (omega arith)))
-    (eqb-true _ 0 (test-at 8 (omega arith)))
-
 earlier-lines : tookOf earlier ≡ noted 1 (slipFrom A) noSlips
 unfolding tests his earlier takenFrom
-earlier-lines =
-    took-noted (start his) A lent noSlips (eqb-true _ 0 (test-at 5 (omega arith)))
-    ∙ ap (λ (p : ℕ). noted p (slipFrom A) noSlips) (eqb-true _ 1 (test-at 1 (omega arith)))
+earlier-lines = one-taken (start his) A 1 noSlips (test-at 1 (omega arith))
+
+his-lines : tookOf his ≡ noted 0 (slipFrom B) (noted 1 (slipFrom A) noSlips)
+unfolding tests his earlier takenFrom
+his-lines = one-taken (after (start his) (take A lent)) B 0 (tookOf earlier) (test-at 2 (omega arith)) ∙ ap (noted 0 (slipFrom B)) earlier-lines
+
+hers-lines : tookOf hers ≡ noted 1 (slipFrom A) (noted 0 (slipFrom B) noSlips)
+unfolding tests hers takenFrom
+hers-lines =
+    one-taken (after (start hers) (take B lent)) A 1 _ (test-at 4 (omega arith))
+    ∙ ap (noted 1 (slipFrom A)) (one-taken (start hers) B 0 noSlips (test-at 3 (omega arith)))
 
 -- a third shop has nothing
 none-noted : (p x : ℕ) (a b : Slip) (q : ℕ) → p < 2 → x < 2 → noted p a (noted x b noSlips) (suc (suc q)) ≡ []

@@ -11,13 +11,13 @@ use borrow.Author.Tests.{eqb-false, leb-true, ltb-true, ltb-false, not-false}
 use Rattle.texts.specs.Bytes.{allOf}
 use Rattle.texts.specs.Code.{noCode, code, sameCode}
 use Rattle.texts.specs.Answers.{Meaning, answerOf}
-use Rattle.texts.specs.Register.{noListed, place, among, twins, shopsOf, position, listed}
-use Rattle.texts.specs.Slip.{noDep, depLine, slipLayout, depsOf}
+use Rattle.texts.specs.Entries.{noEntry}
+use Rattle.texts.specs.Register.{place, among, twins, shopsOf, position, listed}
+use Rattle.texts.specs.Slip.{depLine, slipLayout, depsOf}
 use Rattle.texts.specs.Lines.{six}
 use Rattle.texts.specs.declared.code.Code.{Code}
-use Rattle.texts.specs.declared.register.Listed.{Listed}
+use Rattle.texts.specs.declared.entry.Entry.{Entry}
 use Rattle.texts.specs.declared.register.Register.{Register}
-use Rattle.texts.specs.declared.slip.Dep.{Dep}
 use Rattle.texts.specs.declared.slip.Slip.{Slip}
 use Rattle.texts.proofs.Steps.{both, neither}
 use Rattle.texts.proofs.Firsts.{first-zero}
@@ -33,10 +33,10 @@ pub record Passed (r : Register) (s : Slip) : Type 0 where
   pub legal : slipLayout .legal s ≡ true
   pub number : 0 < s .number
   pub amount : 0 < s .amount
-  pub positive : allOf (λ (d : Dep). ltb 0 (d .number)) (depsOf s) ≡ true
+  pub positive : allOf (λ (d : Entry). ltb 0 (d .number)) (depsOf s) ≡ true
   pub payer : listed r (s .payer) ≡ true
   pub payee : listed r (s .payee) ≡ true
-  pub known : allOf (λ (d : Dep). listed r (d .code)) (depsOf s) ≡ true
+  pub known : allOf (λ (d : Entry). listed r (d .code)) (depsOf s) ≡ true
   pub another : sameCode (s .payee) (s .payer) ≡ false
   pub rises : rising r (position r (s .payer)) 0 (depsOf s) ≡ true
 
@@ -72,12 +72,12 @@ passed r s e =
 
 -- ---- dependencies in rising position, all of them listed
 
-unfoldable pub Up : List Listed → ℕ → List Dep → Type 0
+unfoldable pub Up : List Entry → ℕ → List Entry → Type 0
 Up us least [] = Unit {0}
 Up us least (d ∷ ds) = (least ≤ place us (d .code)) × (place us (d .code) < length us) × (0 < d .number) × Up us (suc (place us (d .code))) ds
 
-rising-up : (r : Register) (payer least : ℕ) (ds : List Dep) → length (shopsOf r) ≡ r .count → rising r payer least ds ≡ true
-    → allOf (λ (d : Dep). listed r (d .code)) ds ≡ true → allOf (λ (d : Dep). ltb 0 (d .number)) ds ≡ true → Up (shopsOf r) least ds
+rising-up : (r : Register) (payer least : ℕ) (ds : List Entry) → length (shopsOf r) ≡ r .count → rising r payer least ds ≡ true
+    → allOf (λ (d : Entry). listed r (d .code)) ds ≡ true → allOf (λ (d : Entry). ltb 0 (d .number)) ds ≡ true → Up (shopsOf r) least ds
 unfolding rising allOf Up
 rising-up r payer least [] c e k p = tt
 rising-up r payer least (d ∷ ds) c e k p =
@@ -88,14 +88,14 @@ rising-up r payer least (d ∷ ds) c e k p =
     let q = both (ltb 0 (d .number)) _ p in
     (leb-true least x (a .0), ltb-true _ _ (l .0), ltb-true 0 _ (q .0), rising-up r payer (suc x) ds c (b .1) (l .1) (q .1))
 
-pub later : (u : Listed) (us : List Listed) (c : Code) (k : ℕ) → suc k ≤ place (u ∷ us) c → sameCode (u .code) c ≡ false
+pub later : (u : Entry) (us : List Entry) (c : Code) (k : ℕ) → suc k ≤ place (u ∷ us) c → sameCode (u .code) c ≡ false
 later u us c k h = go (sameCode (u .code) c) refl
   where
     go : (t : Bool) → sameCode (u .code) c ≡ t → sameCode (u .code) c ≡ false
     go true e = let z = place-head u us c e in absurd (omega arith)
     go false e = e
 
-shift : (u : Listed) (us : List Listed) (k : ℕ) (ds : List Dep) → Up (u ∷ us) (suc k) ds → Up us k ds
+shift : (u : Entry) (us : List Entry) (k : ℕ) (ds : List Entry) → Up (u ∷ us) (suc k) ds → Up us k ds
 unfolding Up
 shift u us k [] h = tt
 shift u us k (d ∷ ds) (a, b, c, t) =
@@ -103,15 +103,15 @@ shift u us k (d ∷ ds) (a, b, c, t) =
     let t′ = subst (λ (n : ℕ). Up (u ∷ us) (suc n) ds) e t in
     (omega arith, omega arith, c, shift u us (suc (place us (d .code))) ds t′)
 
-for-none : (u : Listed) (us : List Listed) (k : ℕ) (ds : List Dep) → Up (u ∷ us) (suc k) ds → numberFor ds (u .code) ≡ 0
+for-none : (u : Entry) (us : List Entry) (k : ℕ) (ds : List Entry) → Up (u ∷ us) (suc k) ds → numberFor ds (u .code) ≡ 0
 unfolding Up numberFor
 for-none u us k [] h = refl
 for-none u us k (d ∷ ds) (a, b, c, t) =
     let i = for-none u us (place (u ∷ us) (d .code)) ds t in
     rw (later u us (d .code) k a, numberFor) i
 
-pub past-all : (us : List Listed) (d : Dep) (ds : List Dep) → length us ≤ place us (d .code)
-    → map (λ (l : Listed). numberFor (d ∷ ds) (l .code)) us ≡ map (λ (l : Listed). numberFor ds (l .code)) us
+pub past-all : (us : List Entry) (d : Entry) (ds : List Entry) → length us ≤ place us (d .code)
+    → map (λ (l : Entry). numberFor (d ∷ ds) (l .code)) us ≡ map (λ (l : Entry). numberFor ds (l .code)) us
 unfolding numberFor
 past-all [] d ds h = refl
 past-all (u ∷ us) d ds h =
@@ -121,19 +121,19 @@ past-all (u ∷ us) d ds h =
     let j : numberFor (d ∷ ds) (u .code) ≡ numberFor ds (u .code) = rw (n, numberFor) in
     ap₂ (λ x xs. x ∷ xs) j i
 
-from-some : (l : Listed) (ls : List Listed) (n : ℕ) (ns : List ℕ) → 0 < n → depsFrom (l ∷ ls) (n ∷ ns) ≡ record { code = l .code; number = n } ∷ depsFrom ls ns
+from-some : (l : Entry) (ls : List Entry) (n : ℕ) (ns : List ℕ) → 0 < n → depsFrom (l ∷ ls) (n ∷ ns) ≡ record { code = l .code; number = n } ∷ depsFrom ls ns
 unfolding depsFrom
 from-some l ls zero ns h = absurd (omega arith)
 from-some l ls (suc n) ns h = refl
 
-pub from-none : (l : Listed) (ls : List Listed) (n : ℕ) (ns : List ℕ) → n ≡ 0 → depsFrom (l ∷ ls) (n ∷ ns) ≡ depsFrom ls ns
+pub from-none : (l : Entry) (ls : List Entry) (n : ℕ) (ns : List ℕ) → n ≡ 0 → depsFrom (l ∷ ls) (n ∷ ns) ≡ depsFrom ls ns
 unfolding depsFrom
 from-none l ls n ns h = ap (λ k. depsFrom (l ∷ ls) (k ∷ ns)) h
 
-abbrev needs : List Dep → List Listed → List ℕ
-needs ds us = map (λ (l : Listed). numberFor ds (l .code)) us
+abbrev needs : List Entry → List Entry → List ℕ
+needs ds us = map (λ (l : Entry). numberFor ds (l .code)) us
 
-deps-back : (us : List Listed) (ds : List Dep) → twins us ≡ false → Up us 0 ds → depsFrom us (needs ds us) ≡ ds
+deps-back : (us : List Entry) (ds : List Entry) → twins us ≡ false → Up us 0 ds → depsFrom us (needs ds us) ≡ ds
 unfolding Up
 deps-back [] [] n h = unfold depsFrom in refl
 deps-back [] (d ∷ ds) n (a, b, c, t) = absurd (omega arith)
@@ -163,7 +163,7 @@ deps-back (u ∷ us) (d ∷ ds) n (a, b, c, t) =
 
 -- ---- unused places of the register give no dependency
 
-pub for-zero : (ds : List Dep) → allOf (depLine .legal) ds ≡ true → numberFor ds noCode ≡ 0
+pub for-zero : (ds : List Entry) → allOf (depLine .legal) ds ≡ true → numberFor ds noCode ≡ 0
 unfolding numberFor allOf
 for-zero [] h = refl
 for-zero (d ∷ ds) h =
@@ -172,12 +172,12 @@ for-zero (d ∷ ds) h =
     let i = for-zero ds (k .1) in
     rw (zeros-not-code (d .code) (l .0), numberFor) i
 
-from-zeros : (ds : List Dep) (k : ℕ) → numberFor ds noCode ≡ 0 → depsFrom (replicate k noListed) (needs ds (replicate k noListed)) ≡ []
+from-zeros : (ds : List Entry) (k : ℕ) → numberFor ds noCode ≡ 0 → depsFrom (replicate k noEntry) (needs ds (replicate k noEntry)) ≡ []
 unfolding depsFrom
 from-zeros ds zero e = refl
-from-zeros ds (suc k) e = from-none noListed (replicate k noListed) _ _ e ∙ from-zeros ds k e
+from-zeros ds (suc k) e = from-none noEntry (replicate k noEntry) _ _ e ∙ from-zeros ds k e
 
-from-append : (ds : List Dep) (us zs : List Listed) → depsFrom zs (needs ds zs) ≡ [] → depsFrom (us ++ zs) (needs ds (us ++ zs)) ≡ depsFrom us (needs ds us)
+from-append : (ds : List Entry) (us zs : List Entry) → depsFrom zs (needs ds zs) ≡ [] → depsFrom (us ++ zs) (needs ds (us ++ zs)) ≡ depsFrom us (needs ds us)
 unfolding depsFrom
 from-append ds [] zs e = e
 from-append ds (u ∷ us) zs e = go (numberFor ds (u .code)) (from-append ds us zs e)
@@ -194,9 +194,9 @@ below r c R e = let l = length-take-le (r .count) (r .shops) (omega (arith, R .f
 
 pub code-at : (r : Register) (c : Code) → RegisterLegal r → listed r c ≡ true → listedAt r (position r c) .code ≡ c
 code-at r c R e =
-    let z : Listed = record { code = record { digits = []; len = 0 }; opening = 0 } in
+    let z : Entry = record { code = record { digits = []; len = 0 }; number = 0 } in
     let h = below r c R e in
-    ap (λ (l : Listed). l .code) (sym (getD-take (r .count) (r .shops) (position r c) z h)) ∙ place-at (shopsOf r) c z (ltb-true _ _ e)
+    ap (λ (l : Entry). l .code) (sym (getD-take (r .count) (r .shops) (position r c) z h)) ∙ place-at (shopsOf r) c z (ltb-true _ _ e)
 
 pub deps-from : (r : Register) (s : Slip) → RegisterLegal r → Passed r s → depsFrom (r .shops) (needs (depsOf s) (r .shops)) ≡ depsOf s
 deps-from r s R P =
@@ -207,7 +207,7 @@ deps-from r s R P =
     let z = for-zero ds (S .used) in
     let n : depsFrom zs (needs ds zs) ≡ [] = rw (R .fits .rest) (from-zeros ds (16 - r .count) z) in
     let c = length-take-le (r .count) (r .shops) (omega (arith, R .fits .most, R .fits .places)) in
-    ap (λ (l : List Listed). depsFrom l (needs ds l)) (sym (take-append-drop (r .count) (r .shops)))
+    ap (λ (l : List Entry). depsFrom l (needs ds l)) (sym (take-append-drop (r .count) (r .shops)))
     ∙ from-append ds us zs n
     ∙ deps-back us ds (R .single) (rising-up r (position r (s .payer)) 0 ds c (P .rises) (P .known) (P .positive))
 
@@ -217,7 +217,7 @@ one-to-one r s R P =
     let S = slip-legal s (P .legal) in
     let c : length (depsOf s) ≡ s .count = length-take-le (s .count) (s .deps) (omega (arith, S .count, S .places)) in
     let d = deps-from r s R P in
-    let rest : depsOf s ++ replicate (15 - s .count) noDep ≡ s .deps = ap (λ x. depsOf s ++ x) (sym (S .rest)) ∙ take-append-drop (s .count) (s .deps) in
+    let rest : depsOf s ++ replicate (16 - s .count) noEntry ≡ s .deps = ap (λ x. depsOf s ++ x) (sym (S .rest)) ∙ take-append-drop (s .count) (s .deps) in
     ap (λ ds. slipWith (listedAt r (position r (s .payer)) .code) (s .number) (listedAt r (position r (s .payee)) .code) (s .amount) ds) d
     ∙ (λ i. record {
       payer = code-at r (s .payer) R (P .payer) i;
@@ -225,5 +225,5 @@ one-to-one r s R P =
       payee = code-at r (s .payee) R (P .payee) i;
       amount = s .amount;
       count = c i;
-      deps = (ap (λ (k : ℕ). depsOf s ++ replicate (15 - k) noDep) c ∙ rest) i;
+      deps = (ap (λ (k : ℕ). depsOf s ++ replicate (16 - k) noEntry) c ∙ rest) i;
     })

@@ -7,7 +7,8 @@ use native.Mathlib.Omega.{arith}
 use lib.ListN.{length, drop, replicate, length-map, length-replicate, getD-replicate, List·getD-map}
 use lib.Dec.{eqb}
 use Rattle.texts.specs.Bytes.{allOf}
-use Rattle.texts.specs.Register.{noListed, registerAnswer, registerRead}
+use Rattle.texts.specs.Entries.{noEntry}
+use Rattle.texts.specs.Register.{opening, registerAnswer, registerRead}
 use Rattle.texts.specs.declared.register.Register.{Register}
 use Rattle.texts.proofs.Steps.{zeros-all}
 use Rattle.texts.proofs.Legal.{RegisterLegal, register-legal, read-legal}
@@ -16,7 +17,7 @@ use Rattle.replica.specs.declared.record.Waiting.{Waiting}
 use Rattle.replica.specs.declared.record.Line.{Line}
 use Rattle.replica.specs.Record.{noShop, noWaiting, noLine, listedAt, own, shopAt, lineAt}
 use Rattle.replica.specs.State.{zeroFrom, zeroShop, zeroWaiting, zeroLine, lawful}
-use Rattle.replica.specs.Open.{opening, fresh, opened}
+use Rattle.replica.specs.Open.{firstDay, fresh, opened}
 use Rattle.replica.proofs.Sums.{sum-same}
 use Rattle.replica.proofs.Parts.{Lined, whole}
 
@@ -43,9 +44,9 @@ zero-line : zeroLine noLine ≡ true
 unfolding allOf
 zero-line = refl
 
-pub fresh-shop : (r : Register) (p : ℕ) → shopAt (fresh r) p ≡ opening (listedAt r p)
+pub fresh-shop : (r : Register) (p : ℕ) → shopAt (fresh r) p ≡ firstDay (listedAt r p)
 unfolding fresh
-fresh-shop r p = List·getD-map opening (r .shops) p (record { code = record { digits = []; len = 0 }; opening = 0 })
+fresh-shop r p = List·getD-map firstDay (r .shops) p (record { code = record { digits = []; len = 0 }; number = 0 })
 
 pub fresh-line : (r : Register) (p : ℕ) → p < 16 → lineAt (fresh r) p ≡ noLine
 unfolding fresh
@@ -57,13 +58,13 @@ fresh-lawful r e =
     let R = register-legal r e in
     whole (fresh r) record {
       register = e;
-      shopPlaces = length-map (r .shops) opening ∙ R .fits .places;
+      shopPlaces = length-map (r .shops) firstDay ∙ R .fits .places;
       shopRest =
-          ap (allOf zeroShop) (map-drop opening (r .count) (r .shops) ∙ ap (map opening) (R .fits .rest) ∙ map-replicate opening (16 - r .count) noListed)
+          ap (allOf zeroShop) (map-drop firstDay (r .count) (r .shops) ∙ ap (map firstDay) (R .fits .rest) ∙ map-replicate firstDay (16 - r .count) noEntry)
           ∙ zeros-all noShop zeroShop refl (16 - r .count);
       linePlaces = length-replicate 16 noLine;
       lineRest = drop-replicate (r .count) 16 noLine zeroLine zero-line;
-      sums = sum-same (r .count) (λ p. shopAt (fresh r) p .balance) (λ p. listedAt r p .opening) (λ p _. ap (λ (s : Shop). s .balance) (fresh-shop r p));
+      sums = sum-same (r .count) (λ p. shopAt (fresh r) p .balance) (λ p. opening (listedAt r p)) (λ p _. ap (λ (s : Shop). s .balance) (fresh-shop r p));
       lined = λ p h. line R p h;
       ownMark = ap (λ (s : Shop). s .mark) (fresh-shop r (own (fresh r)));
       issued = omega arith;

@@ -6,7 +6,7 @@ use lib.ListN.{length, drop}
 use lib.Dec.{leb, eqb}
 use borrow.Author.Tests.{eqb-true, eq-eqb, leb-true, le-leb}
 use Rattle.texts.specs.Bytes.{allOf}
-use Rattle.texts.specs.Register.{registerAnswer}
+use Rattle.texts.specs.Register.{opening, registerAnswer}
 use Rattle.texts.proofs.Steps.{both, and}
 use Rattle.replica.specs.declared.record.Waiting.{Waiting}
 use Rattle.replica.specs.declared.record.Replica.{Replica}
@@ -35,7 +35,7 @@ pub record Parts (self : Replica) : Type 0 where
   pub shopRest : allOf zeroShop (drop (shopCount self) (self .shops)) ≡ true
   pub linePlaces : length (self .lines) ≡ 16
   pub lineRest : allOf zeroLine (drop (shopCount self) (self .lines)) ≡ true
-  pub sums : sumTo (shopCount self) (λ p. shopAt self p .balance) ≡ sumTo (shopCount self) (λ p. listedAt (self .register) p .opening)
+  pub sums : sumTo (shopCount self) (λ p. shopAt self p .balance) ≡ sumTo (shopCount self) (λ p. opening (listedAt (self .register) p))
   pub lined : (p : ℕ) → p < shopCount self → Lined self p
   pub ownMark : shopAt self (own self) .mark ≡ 0
   pub issued : self .issued ≤ 999999
@@ -86,7 +86,7 @@ parts self e =
     let c2 = both (zeroFrom 16 zeroShop n (self .shops)) _ (c1 .1) in
     let c3 = both (zeroFrom 16 zeroLine n (self .lines)) _ (c2 .1) in
     let c4 = both (every n (restOf self)) _ (c3 .1) in
-    let c5 = both (eqb (sumTo n (λ p. shopAt self p .balance)) (sumTo n (λ p. listedAt (self .register) p .opening))) _ (c4 .1) in
+    let c5 = both (eqb (sumTo n (λ p. shopAt self p .balance)) (sumTo n (λ p. opening (listedAt (self .register) p)))) _ (c4 .1) in
     let c6 = both (every n (lineKept self)) _ (c5 .1) in
     let ci = both (every n (numberedOn self)) _ (c6 .1) in
     let cj = both (every n (paidByShop self)) _ (ci .1) in

@@ -12,9 +12,9 @@ use lib.Dec.{ltb, eqb}
 use borrow.Author.Tests.{eqb-true, eq-eqb, leb-false, not-false}
 use Rattle.texts.specs.Bytes.{allOf, found}
 use Rattle.texts.specs.Answers.{Meaning, answerOf}
-use Rattle.texts.specs.Register.{noListed}
+use Rattle.texts.specs.Entries.{noEntry}
 use Rattle.texts.specs.Slip.{slipLayout, slipIn, depsOf}
-use Rattle.texts.specs.declared.register.Listed.{Listed}
+use Rattle.texts.specs.declared.entry.Entry.{Entry}
 use Rattle.texts.specs.declared.register.Register.{Register}
 use Rattle.texts.specs.declared.slip.Slip.{Slip}
 use Rattle.texts.proofs.Steps.{and, zeros-all, all-set, all-drop}
@@ -44,11 +44,11 @@ use Rattle.replica.proofs.Applied.{passed-of, atPlace, apply-lawful}
 waiting-fits : (r : Register) (s : Slip) → RegisterLegal r → Passed r s → zeroFrom 16 (eqb 0) (r .count) (waitingOf r s .needs) ≡ true
 unfolding waitingOf
 waiting-fits r s R P =
-    let g : Listed → ℕ = λ l. numberFor (depsOf s) (l .code) in
-    let z : g noListed ≡ 0 = for-zero (depsOf s) (slip-legal s (P .legal) .used) in
+    let g : Entry → ℕ = λ l. numberFor (depsOf s) (l .code) in
+    let z : g noEntry ≡ 0 = for-zero (depsOf s) (slip-legal s (P .legal) .used) in
     and _ _ (eq-eqb _ 16 (length-map (r .shops) g ∙ R .fits .places))
-    (ap (allOf (eqb 0)) (map-drop g (r .count) (r .shops) ∙ ap (map g) (R .fits .rest) ∙ map-replicate g (16 - r .count) noListed)
-    ∙ zeros-all (g noListed) (eqb 0) (ap (eqb 0) z) (16 - r .count))
+    (ap (allOf (eqb 0)) (map-drop g (r .count) (r .shops) ∙ ap (map g) (R .fits .rest) ∙ map-replicate g (16 - r .count) noEntry)
+    ∙ zeros-all (g noEntry) (eqb 0) (ap (eqb 0) z) (16 - r .count))
 
 module _ (self : Replica) (s : Slip) (P : Parts self) (Q : Passed (self .register) s) (ok : passes (self .register) s ≡ true)
     (number : s .number ≡ shopAt self (payerOf self s) .taken + 1) (room : lineAt self (payerOf self s) .count < 8) where

@@ -9,7 +9,7 @@ use Prim.Native.Nat.{ℕ, zero, suc, _+_, _≤_, _<_}
 use lib.ListN.{drop}
 use lib.Dec.{eqb}
 use Rattle.texts.specs.Code.{codeOf}
-use Rattle.texts.specs.Register.{position}
+use Rattle.texts.specs.Register.{opening, position}
 use Rattle.texts.specs.Slip.{depsOf}
 use Rattle.texts.specs.declared.register.Register.{Register}
 use Rattle.texts.specs.declared.slip.Slip.{Slip}
@@ -181,7 +181,7 @@ pub record Follows (self : Replica) (l : Locals) : Type 0 where
   pub seq : (q : ℕ) → q < shopCount self → shopAt self q .applied ≡ l .seq q
   pub rec : (q : ℕ) → q < shopCount self → shopAt self q .taken ≡ l .rec q
   pub waits : (q : ℕ) → q < shopCount self → map (messageOf (self .register)) (waitingSlips self q) ≡ l .toValidate q
-  pub balance : (a : ℕ) → a < shopCount self → shopAt self a .balance + outgoing a (l .hist a) ≡ listedAt (self .register) a .opening + incoming a (l .hist a)
+  pub balance : (a : ℕ) → a < shopCount self → shopAt self a .balance + outgoing a (l .hist a) ≡ opening (listedAt (self .register) a) + incoming a (l .hist a)
   pub marks : (q : ℕ) → q < shopCount self → shopAt self q .mark ≡ lastOf (l .deps) q
 
 abbrev pub RecordFollows : Type 0
@@ -200,7 +200,7 @@ abbrev pub Exactly : Type 0 → Type 0 → Type 0
 Exactly a b = (a → b) × (b → a)
 
 abbrev pub openings : Replica → ℕ → ℕ
-openings self a = listedAt (self .register) a .opening
+openings self a = opening (listedAt (self .register) a)
 
 -- Whichever set the slip's one number per shop stands for.
 abbrev pub ReadyIsValid : Type 1

@@ -6,7 +6,7 @@ use mathlib.Core.List.{List, [], _∷_, _++_, map}
 use Prim.Native.Nat.{ℕ, zero, suc, _+_, _-_, _≤_, _<_}
 use lib.Dec.{eqb}
 use Rattle.texts.specs.Code.{codeOf}
-use Rattle.texts.specs.Register.{position}
+use Rattle.texts.specs.Register.{opening, position}
 use Rattle.texts.specs.declared.register.Register.{Register}
 use Rattle.texts.specs.declared.slip.Slip.{Slip}
 use Rattle.replica.specs.declared.record.Replica.{Replica}
@@ -100,7 +100,7 @@ abbrev pub balancesOf : Replica → Balances
 balancesOf self p = shopAt self p .balance
 
 abbrev pub openingsOf : Register → Balances
-openingsOf r p = listedAt r p .opening
+openingsOf r p = opening (listedAt r p)
 
 -- The slips that were applied, in their order, are successful transfers of a legal sequential history from the openings, each by the owner
 -- of the account debited; the balances are its last state.

@@ -9,7 +9,7 @@ use Rattle.texts.specs.Answers.{Row, form, shop, oneself, range, deps, answerOf
 use Rattle.texts.specs.Register.{position, listed}
 use Rattle.texts.specs.Slip.{slipLayout, depsOf}
 use Rattle.texts.specs.declared.register.Register.{Register}
-use Rattle.texts.specs.declared.slip.Dep.{Dep}
+use Rattle.texts.specs.declared.entry.Entry.{Entry}
 use Rattle.texts.specs.declared.slip.Slip.{Slip}
 
 -- 1 form: the values to write do not fit the layout
@@ -18,18 +18,18 @@ form? s = not (slipLayout .legal s)
 
 -- 4 range: slip number, amount or a dependency's number is 0
 unfoldable pub range? : Slip → Bool
-range? s = eqb (s .number) 0 || (eqb (s .amount) 0 || not (allOf (λ (d : Dep). ltb 0 (d .number)) (depsOf s)))
+range? s = eqb (s .number) 0 || (eqb (s .amount) 0 || not (allOf (λ (d : Entry). ltb 0 (d .number)) (depsOf s)))
 
 -- 2 shop: a code is not in the register
 unfoldable pub shop? : Register → Slip → Bool
-shop? r s = not (listed r (s .payer) && (listed r (s .payee) && allOf (λ (d : Dep). listed r (d .code)) (depsOf s)))
+shop? r s = not (listed r (s .payer) && (listed r (s .payee) && allOf (λ (d : Entry). listed r (d .code)) (depsOf s)))
 
 -- 3 self: payee is payer
 abbrev pub self? : Slip → Bool
 self? s = sameCode (s .payee) (s .payer)
 
 -- "strictly rising register position and never name the payer": each from `least` on
-unfoldable pub rising : Register → ℕ → ℕ → List Dep → Bool
+unfoldable pub rising : Register → ℕ → ℕ → List Entry → Bool
 rising r payer least [] = true
 rising r payer least (d ∷ ds) =
     let p = position r (d .code) in

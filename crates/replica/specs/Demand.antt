@@ -8,6 +8,7 @@ use mathlib.Core.List.{List, [], _∷_, _++_}
 use Prim.Native.Nat.{ℕ, _+_, _<_, _^_}
 use mathlib.Core.Bool.{true, false}
 use Rattle.texts.specs.Code.{sameCode}
+use Rattle.texts.specs.Register.{opening}
 use Rattle.texts.specs.declared.code.Code.{Code}
 use Rattle.texts.specs.declared.slip.Slip.{Slip}
 use Rattle.replica.specs.declared.record.Replica.{Replica}
@@ -81,7 +82,7 @@ abbrev pub Ledger : Type 0
 Ledger =
     (a : Terminal) (p : ℕ) → p < shopCount (start a)
     → shopAt (now a) p .balance + paidBy (appliedOf a p)
-    ≡ listedAt (start a .register) p .opening + sumTo (shopCount (start a)) (λ q. receivedBy (listedAt (start a .register) p .code) (appliedOf a q))
+    ≡ opening (listedAt (start a .register) p) + sumTo (shopCount (start a)) (λ q. receivedBy (listedAt (start a .register) p .code) (appliedOf a q))
 
 -- Both sides of it, which are equal, are numbers of 64 bits.
 abbrev pub LedgerFits : Type 0
@@ -90,4 +91,4 @@ LedgerFits = (a : Terminal) (p : ℕ) → p < shopCount (start a) → shopAt (no
 -- "balances add up to the opening credit"
 abbrev pub Conserved : Type 0
 Conserved =
-    (a : Terminal) → sumTo (shopCount (start a)) (λ p. shopAt (now a) p .balance) ≡ sumTo (shopCount (start a)) (λ p. listedAt (start a .register) p .opening)
+    (a : Terminal) → sumTo (shopCount (start a)) (λ p. shopAt (now a) p .balance) ≡ sumTo (shopCount (start a)) (λ p. opening (listedAt (start a .register) p))

@@ -7,14 +7,14 @@ use Prim.Native.Nat.{ℕ, zero, suc, _+_, _-_, _≤_, _<_}
 use lib.Dec.{leb, ltb, eqb}
 use lib.ListN.{length, getD, replicate}
 use Rattle.texts.specs.Answers.{Row, shop, oneself, range, deps, number, full, busy, short, usedup, answerOf}
-use Rattle.texts.specs.Bounds.{mostShops, mostDeps, most}
+use Rattle.texts.specs.Bounds.{mostShops, most}
 use Rattle.texts.specs.Code.{sameCode}
-use Rattle.texts.specs.Register.{position, listed}
+use Rattle.texts.specs.Register.{opening, position, listed}
 use Rattle.texts.specs.Slip.{depsOf}
 use Rattle.texts.specs.Written.{over}
 use Rattle.texts.specs.declared.code.Code.{Code}
 use Rattle.texts.specs.declared.register.Register.{Register}
-use Rattle.texts.specs.declared.slip.Dep.{Dep}
+use Rattle.texts.specs.declared.entry.Entry.{Entry}
 use Rattle.texts.specs.declared.slip.Slip.{Slip}
 use Rattle.replica.specs.declared.checks.Places.{Places}
 use Rattle.replica.specs.declared.record.Shop.{Shop}
@@ -62,7 +62,7 @@ unfoldable pub shopKept : ℕ → ℕ → Shop → Line → Bool
 shopKept n p s l = elim (ltb p n) [ true ↦ numbersKept (l .count) s && lineKeptAt p n (s .applied) l | false ↦ zeroShop s && zeroLine l ]
 
 unfoldable pub balanced : Register → List Shop → Bool
-balanced r shops = eqb (sumTo (r .count) (λ p. getD shops p noShop .balance)) (sumTo (r .count) (λ p. listedAt r p .opening))
+balanced r shops = eqb (sumTo (r .count) (λ p. getD shops p noShop .balance)) (sumTo (r .count) (λ p. opening (listedAt r p)))
 
 unfoldable pub ownKept : ℕ → Shop → Bool
 ownKept issued s = eqb (s .mark) 0 && (leb issued most && leb issued (s .applied + 1))
@@ -75,7 +75,7 @@ placesOf r s =
     record {
       payer = position r (s .payer);
       payee = position r (s .payee);
-      deps = map (λ (d : Dep). position r (d .code)) (depsOf s) ++ replicate (mostDeps - s .count) 0;
+      deps = map (λ (d : Entry). position r (d .code)) (depsOf s) ++ replicate (mostShops - s .count) 0;
     }
 
 -- What is left to ask of a slip that was read: 4, 2, 3, 5, then 6 and 7.

@@ -6,7 +6,7 @@ use Prim.Native.Nat.{ℕ, zero, suc, _+_}
 use lib.ListN.{getD, set, replicate}
 use Rattle.texts.specs.Bounds.{mostShops}
 use Rattle.texts.specs.Register.{noRegister, position}
-use Rattle.texts.specs.declared.register.Listed.{Listed}
+use Rattle.texts.specs.declared.entry.Entry.{Entry}
 use Rattle.texts.specs.declared.register.Register.{Register}
 use Rattle.replica.specs.declared.record.Shop.{Shop}
 use Rattle.replica.specs.declared.record.Waiting.{Waiting}
@@ -30,8 +30,8 @@ noReplica = record { register = noRegister; issued = 0; shops = replicate mostSh
 
 -- ---- parts by position. Past an array's end stands what the checker has there; nothing below asks for it.
 
-abbrev pub listedAt : Register → ℕ → Listed
-listedAt r p = getD (r .shops) p (record { code = record { digits = []; len = 0 }; opening = 0 })
+abbrev pub listedAt : Register → ℕ → Entry
+listedAt r p = getD (r .shops) p (record { code = record { digits = []; len = 0 }; number = 0 })
 
 abbrev pub shopCount : Replica → ℕ
 shopCount self = self .register .count

@@ -3,14 +3,14 @@ use mathlib.Core.Bool.{true, false}
 use mathlib.Core.List.{List, [], _∷_, _++_, map}
 use Prim.Native.Nat.{ℕ, zero, suc, _+_, _-_}
 use lib.ListN.{length, replicate}
-use Rattle.texts.specs.Bounds.{mostDeps}
+use Rattle.texts.specs.Bounds.{mostShops}
 use Rattle.texts.specs.Code.{sameCode}
+use Rattle.texts.specs.Entries.{noEntry}
 use Rattle.texts.specs.Register.{position}
-use Rattle.texts.specs.Slip.{noDep, depsOf}
+use Rattle.texts.specs.Slip.{depsOf}
 use Rattle.texts.specs.declared.code.Code.{Code}
-use Rattle.texts.specs.declared.register.Listed.{Listed}
+use Rattle.texts.specs.declared.entry.Entry.{Entry}
 use Rattle.texts.specs.declared.register.Register.{Register}
-use Rattle.texts.specs.declared.slip.Dep.{Dep}
 use Rattle.texts.specs.declared.slip.Slip.{Slip}
 use Rattle.replica.specs.declared.record.Waiting.{Waiting}
 use Rattle.replica.specs.declared.record.Replica.{Replica}
@@ -19,7 +19,7 @@ use Rattle.replica.specs.Record.{listedAt, lineAt, waitingAt}
 -- ---- from the slip
 
 -- The number of the dependency on that shop, 0 where there is none.
-unfoldable pub numberFor : List Dep → Code → ℕ
+unfoldable pub numberFor : List Entry → Code → ℕ
 numberFor [] c = 0
 numberFor (d ∷ ds) c = elim (sameCode c (d .code)) [ true ↦ d .number | false ↦ numberFor ds c ]
 
@@ -30,22 +30,22 @@ waitingOf r s =
       number = s .number;
       payee = position r (s .payee);
       amount = s .amount;
-      needs = map (λ (l : Listed). numberFor (depsOf s) (l .code)) (r .shops);
+      needs = map (λ (l : Entry). numberFor (depsOf s) (l .code)) (r .shops);
     }
 
 -- ---- to the slip
 
 -- One dependency per number that is not 0, in rising position.
-unfoldable pub depsFrom : List Listed → List ℕ → List Dep
+unfoldable pub depsFrom : List Entry → List ℕ → List Entry
 depsFrom [] ns = []
 depsFrom (l ∷ ls) [] = []
 depsFrom (l ∷ ls) (zero ∷ ns) = depsFrom ls ns
 depsFrom (l ∷ ls) (suc n ∷ ns) = record { code = l .code; number = suc n } ∷ depsFrom ls ns
 
 -- A slip with these dependencies, the other places zero.
-abbrev pub slipWith : Code → ℕ → Code → ℕ → List Dep → Slip
+abbrev pub slipWith : Code → ℕ → Code → ℕ → List Entry → Slip
 slipWith payer number payee amount ds =
-    record { payer = payer; number = number; payee = payee; amount = amount; count = length ds; deps = ds ++ replicate (mostDeps - length ds) noDep }
+    record { payer = payer; number = number; payee = payee; amount = amount; count = length ds; deps = ds ++ replicate (mostShops - length ds) noEntry }
 
 unfoldable pub slipOf : Register → Waiting → Slip
 slipOf r w =

@@ -7,7 +7,7 @@ use lib.ListN.{length, drop}
 use lib.Dec.{leb, eqb}
 use Rattle.texts.specs.Bounds.{most, mostShops}
 use Rattle.texts.specs.Bytes.{allOf}
-use Rattle.texts.specs.Register.{registerAnswer}
+use Rattle.texts.specs.Register.{opening, registerAnswer}
 use Rattle.replica.specs.declared.record.Shop.{Shop}
 use Rattle.replica.specs.declared.record.Waiting.{Waiting}
 use Rattle.replica.specs.declared.record.Line.{Line}
@@ -71,7 +71,7 @@ lawful self =
     zeroFrom mostShops zeroLine (shopCount self) (self .lines) ∷
     every (shopCount self) (λ p. restZero (shopCount self) (lineAt self p)) ∷
     -- "balances add up to the openings"
-    eqb (sumTo (shopCount self) (λ p. shopAt self p .balance)) (sumTo (shopCount self) (λ p. listedAt (self .register) p .opening)) ∷
+    eqb (sumTo (shopCount self) (λ p. shopAt self p .balance)) (sumTo (shopCount self) (λ p. opening (listedAt (self .register) p))) ∷
     every (shopCount self) (lineKept self) ∷
     every (shopCount self) (numberedOn self) ∷
     every (shopCount self) (paidByShop self) ∷

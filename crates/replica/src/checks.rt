@@ -7,7 +7,6 @@ use texts::answers::OK;
 use texts::answers::RANGE;
 use texts::answers::SELF;
 use texts::answers::SHOP;
-use texts::bounds::DEPS;
 use texts::bounds::SHOPS;
 ghost use mathlib.Core.Path.{_≡_};
 ghost use mathlib.Core.Bool.{true, false, not};
@@ -24,7 +23,7 @@ ghost use Rattle.replica.specs.Inside.{placesOf};
 pub(crate) struct Places {
     pub(crate) payer: usize,
     pub(crate) payee: usize,
-    pub(crate) deps: [usize; DEPS],
+    pub(crate) deps: [usize; SHOPS],
 }
 
 // Each code is looked up once.
@@ -35,7 +34,7 @@ pub(crate) fn places_of(register: Register, slip: Slip) -> Places
     let payer = register.position(slip.payer);
     let payee = register.position(slip.payee);
     let n = slip.count;
-    let mut deps = [0usize; DEPS];
+    let mut deps = [0usize; SHOPS];
     let mut i = 0;
     while i < n {
         let dep = slip.deps[i];

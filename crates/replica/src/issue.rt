@@ -3,7 +3,7 @@ use crate::outcome::Outcome;
 use crate::record::Replica;
 use crate::record::Shop;
 use texts::Code;
-use texts::Dep;
+use texts::Entry;
 use texts::Register;
 use texts::Slip;
 use texts::answers::BUSY;
@@ -15,7 +15,6 @@ use texts::answers::SHOP;
 use texts::answers::SHORT;
 use texts::answers::STATE;
 use texts::answers::USEDUP;
-use texts::bounds::DEPS;
 use texts::bounds::MOST;
 use texts::bounds::SHOPS;
 use texts::bounds::SLIP_ROOM;
@@ -72,7 +71,7 @@ fn slip_with_marks(
         if mark != 0 {
             let listed = register.shops[i];
             let code = listed.code;
-            slip.deps[count] = Dep { code, number: mark };
+            slip.deps[count] = Entry { code, number: mark };
             count += 1;
         }
         i += 1;

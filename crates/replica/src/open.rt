@@ -4,7 +4,7 @@ use crate::record::Line;
 use crate::record::Replica;
 use crate::record::Shop;
 use texts::Code;
-use texts::Listed;
+use texts::Entry;
 use texts::Register;
 use texts::answers::OK;
 use texts::answers::SHOP;
@@ -13,12 +13,12 @@ use texts::bounds::SHOPS;
 use texts::read_register;
 ghost use mathlib.Core.Path.{_≡_};
 ghost use mathlib.Core.List.{map};
-ghost use Rattle.replica.specs.Open.{opening, opened, fresh};
+ghost use Rattle.replica.specs.Open.{firstDay, opened, fresh};
 ghost use Rattle.replica.specs.Balance.{asked};
 
 // Each shop with its opening credit as its balance.
-fn openings(listed: [Listed; SHOPS]) -> [Shop; SHOPS]
-    ensures { λ r. ⌜ r ≡ map opening listed ⌝ }
+fn openings(listed: [Entry; SHOPS]) -> [Shop; SHOPS]
+    ensures { λ r. ⌜ r ≡ map firstDay listed ⌝ }
 {
     let none = Shop {
         balance: 0,
@@ -29,7 +29,7 @@ fn openings(listed: [Listed; SHOPS]) -> [Shop; SHOPS]
     let mut shops = [none; SHOPS];
     let mut i = 0;
     while i < SHOPS {
-        shops[i].balance = listed[i].opening;
+        shops[i].balance = listed[i].number;
         i += 1;
     }
     shops

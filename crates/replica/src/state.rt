@@ -202,7 +202,7 @@ fn is_balanced(register: Register, shops: [Shop; SHOPS]) -> bool
     while i < n {
         let listed = register.shops[i];
         let shop = shops[i];
-        openings += listed.opening as u64;
+        openings += listed.number as u64;
         balances += shop.balance as u64;
         i += 1;
     }

@@ -7,7 +7,8 @@ use lib.ListN.{length, replicate}
 use Rattle.texts.specs.Bytes.{bytes}
 use Rattle.texts.specs.Layout.{past, joined, several, whole}
 use Rattle.texts.specs.Leaf.{digits, oneMore, numeral, run}
-use Rattle.texts.specs.Slip.{noDep, slipLayout, slipIn}
+use Rattle.texts.specs.Entries.{noEntry}
+use Rattle.texts.specs.Slip.{slipLayout, slipIn}
 use Rattle.texts.specs.declared.code.Code.{Code}
 use Rattle.texts.specs.declared.slip.Slip.{Slip}
 
@@ -21,7 +22,7 @@ c071 : Code
 c071 = record { digits = 48 ∷ 55 ∷ 49 ∷ 0 ∷ 0 ∷ 0 ∷ 0 ∷ 0 ∷ []; len = 3 }
 
 slipB : Slip
-slipB = record { payer = c71; number = 1; payee = c071; amount = 300; count = 0; deps = replicate 15 noDep }
+slipB = record { payer = c71; number = 1; payee = c071; amount = 300; count = 0; deps = replicate 16 noEntry }
 
 b-size : length textB ≡ 55
 unfolding textB

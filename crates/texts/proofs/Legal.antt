@@ -12,17 +12,17 @@ use borrow.Author.Tests.{eqb-true, eq-eqb, leb-true, le-leb, not-false, ne-eqb}
 use Rattle.texts.specs.Bytes.{sameBytes, allOf, found, orZeros}
 use Rattle.texts.specs.Bounds.{codePlaces, mostShops}
 use Rattle.texts.specs.Code.{code, isCode, sameCode, spelled, noCode}
+use Rattle.texts.specs.Entries.{noEntry, zeroEntry}
 use Rattle.texts.specs.Answers.{Meaning, answerOf}
-use Rattle.texts.specs.Register.{noListed, noRegister, zeroListed, shopsLine, shopLine, shopLines, ownLine, registerLayout, registerIn, place, twins, shopsOf, listed, registerRows, registerAnswer, registerTextAnswer, registerRead, among}
-use Rattle.texts.specs.Slip.{noDep, zeroDep, payerLine, slipNumberLine, payeeLine, amountLine, depsLine, depLine, slipLayout, depsOf}
+use Rattle.texts.specs.Register.{noRegister, shopsLine, shopLine, shopLines, ownLine, registerLayout, registerIn, place, twins, shopsOf, listed, registerRows, registerAnswer, registerTextAnswer, registerRead, among}
+use Rattle.texts.specs.Slip.{payerLine, slipNumberLine, payeeLine, amountLine, depsLine, depLine, slipLayout, depsOf}
 use Rattle.texts.specs.declared.code.Code.{Code}
-use Rattle.texts.specs.declared.register.Listed.{Listed}
+use Rattle.texts.specs.declared.entry.Entry.{Entry}
 use Rattle.texts.specs.declared.register.Register.{Register}
-use Rattle.texts.specs.declared.slip.Dep.{Dep}
 use Rattle.texts.specs.declared.slip.Slip.{Slip}
-use Rattle.texts.proofs.Steps.{both, and, all-zeros, zeros-all, bytes-same, neither}
+use Rattle.texts.proofs.Steps.{both, and, upto, all-zeros, zeros-all, bytes-same, neither}
 use Rattle.texts.proofs.Firsts.{first-zero}
-use Rattle.texts.proofs.LawsTexts.{same-code, zeroListed-is, zeroDep-is, register-only}
+use Rattle.texts.proofs.LawsTexts.{same-code, zeroEntry-is, register-only}
 
 -- ---- codes
 
@@ -55,12 +55,9 @@ pub record SlipLegal (s : Slip) : Type 0 where
   pub number : s .number ≤ 999999
   pub amount : s .amount ≤ 999999
   pub count : s .count ≤ 15
-  pub places : length (s .deps) ≡ 15
+  pub places : length (s .deps) ≡ mostShops
   pub used : allOf (depLine .legal) (depsOf s) ≡ true
-  pub rest : drop (s .count) (s .deps) ≡ replicate (15 - s .count) noDep
-
-upto : (least n most : ℕ) → (leb least n && leb n most) && true ≡ true → n ≤ most
-upto least n most e = leb-true n most (both (leb least n) (leb n most) (both (leb least n && leb n most) true e .0) .1)
+  pub rest : drop (s .count) (s .deps) ≡ replicate (mostShops - s .count) noEntry
 
 pub slip-legal : (s : Slip) → slipLayout .legal s ≡ true → SlipLegal s
 unfolding slipLayout
@@ -70,9 +67,9 @@ slip-legal s e =
     let c = both (payeeLine .legal (s .payee)) _ (b .1) in
     let d = both (amountLine .legal (s .amount)) _ (c .1) in
     let f = both (depsLine .legal (s .count)) _ (d .1) in
-    let g = both (eqb (length (s .deps)) 15) _ (f .1) in
-    let h = both (allOf (depLine .legal) (take (s .count) (s .deps))) (allOf zeroDep (drop (s .count) (s .deps))) (g .1) in
-    let l = eqb-true (length (s .deps)) 15 (g .0) in
+    let g = both (eqb (length (s .deps)) mostShops) _ (f .1) in
+    let h = both (allOf (depLine .legal) (take (s .count) (s .deps))) (allOf zeroEntry (drop (s .count) (s .deps))) (g .1) in
+    let l = eqb-true (length (s .deps)) mostShops (g .0) in
     record {
       payer = a .0;
       payee = c .0;
@@ -81,26 +78,26 @@ slip-legal s e =
       count = upto 0 (s .count) 15 (f .0);
       places = l;
       used = h .0;
-      rest = all-zeros noDep zeroDep zeroDep-is (drop (s .count) (s .deps)) (h .1) ∙ ap (λ k. replicate k noDep) (length-drop (s .count) (s .deps) ∙ ap (λ k. k - s .count) l);
+      rest = all-zeros noEntry zeroEntry zeroEntry-is (drop (s .count) (s .deps)) (h .1) ∙ ap (λ k. replicate k noEntry) (length-drop (s .count) (s .deps) ∙ ap (λ k. k - s .count) l);
     }
 
 -- and put together
-pub legal-slip : (payer : Code) (number : ℕ) (payee : Code) (amount : ℕ) (ds : List Dep) → code 10 .legal payer ≡ true → code 10 .legal payee ≡ true
+pub legal-slip : (payer : Code) (number : ℕ) (payee : Code) (amount : ℕ) (ds : List Entry) → code 10 .legal payer ≡ true → code 10 .legal payee ≡ true
     → number ≤ 999999 → amount ≤ 999999 → length ds ≤ 15 → allOf (depLine .legal) ds ≡ true
-    → slipLayout .legal (record { payer = payer; number = number; payee = payee; amount = amount; count = length ds; deps = ds ++ replicate (15 - length ds) noDep }) ≡ true
+    → slipLayout .legal (record { payer = payer; number = number; payee = payee; amount = amount; count = length ds; deps = ds ++ replicate (mostShops - length ds) noEntry }) ≡ true
 unfolding slipLayout sameCode sameBytes
 legal-slip payer number payee amount ds a b c d e f =
     let upto : (n m : ℕ) → n ≤ m → (leb 0 n && leb n m) && true ≡ true = λ n m h. and _ _ (and _ _ (le-leb 0 n (omega arith)) (le-leb n m h)) refl in
-    let rest : List Dep = replicate (15 - length ds) noDep in
-    let l : length (ds ++ rest) ≡ 15 = length-append ds rest ∙ omega (arith, length-replicate (15 - length ds) noDep) in
+    let rest : List Entry = replicate (mostShops - length ds) noEntry in
+    let l : length (ds ++ rest) ≡ mostShops = length-append ds rest ∙ omega (arith, length-replicate (mostShops - length ds) noEntry) in
     and _ _ a
     (and _ _ (upto number 999999 c)
     (and _ _ b
     (and _ _ (upto amount 999999 d)
     (and _ _ (upto (length ds) 15 e)
-    (and _ _ (eq-eqb _ 15 l)
+    (and _ _ (eq-eqb _ mostShops l)
     (and _ _ (ap (allOf (depLine .legal)) (take-at ds rest (length ds) refl) ∙ f)
-    (ap (allOf zeroDep) (drop-at ds rest (length ds) refl) ∙ zeros-all noDep zeroDep refl (15 - length ds))))))))
+    (ap (allOf zeroEntry) (drop-at ds rest (length ds) refl) ∙ zeros-all noEntry zeroEntry refl (mostShops - length ds))))))))
 
 -- ---- the register
 
@@ -109,7 +106,7 @@ pub record RegisterFits (r : Register) : Type 0 where
   pub some : 1 ≤ r .count
   pub most : r .count ≤ mostShops
   pub places : length (r .shops) ≡ mostShops
-  pub rest : drop (r .count) (r .shops) ≡ replicate (mostShops - r .count) noListed
+  pub rest : drop (r .count) (r .shops) ≡ replicate (mostShops - r .count) noEntry
   pub used : allOf (shopLine .legal) (shopsOf r) ≡ true
   pub ownCode : isCode (r .own) ≡ true
 
@@ -121,13 +118,13 @@ register-fits r e =
     let c = both (leb 1 (r .count) && leb (r .count) mostShops) true (b .0) in
     let d = both (leb 1 (r .count)) (leb (r .count) mostShops) (c .0) in
     let g = both (eqb (length (r .shops)) mostShops) _ (b .1) in
-    let h = both (allOf (shopLine .legal) (take (r .count) (r .shops))) (allOf zeroListed (drop (r .count) (r .shops))) (g .1) in
+    let h = both (allOf (shopLine .legal) (take (r .count) (r .shops))) (allOf zeroEntry (drop (r .count) (r .shops))) (g .1) in
     let l = eqb-true (length (r .shops)) mostShops (g .0) in
     record {
       some = leb-true 1 (r .count) (d .0);
       most = leb-true (r .count) mostShops (d .1);
       places = l;
-      rest = all-zeros noListed zeroListed zeroListed-is (drop (r .count) (r .shops)) (h .1) ∙ ap (λ k. replicate k noListed) (length-drop (r .count) (r .shops) ∙ ap (λ k. k - r .count) l);
+      rest = all-zeros noEntry zeroEntry zeroEntry-is (drop (r .count) (r .shops)) (h .1) ∙ ap (λ k. replicate k noEntry) (length-drop (r .count) (r .shops) ∙ ap (λ k. k - r .count) l);
       used = h .0;
       ownCode = a .1;
     }
@@ -177,7 +174,7 @@ read-legal text e = go (registerIn text) refl
 -- ---- positions
 
 -- a code that is listed stands at its position
-pub place-at : (shops : List Listed) (c : Code) (z : Listed) → place shops c < length shops → getD shops (place shops c) z .code ≡ c
+pub place-at : (shops : List Entry) (c : Code) (z : Entry) → place shops c < length shops → getD shops (place shops c) z .code ≡ c
 unfolding place
 place-at [] c z h = absurd (omega arith)
 place-at (s ∷ shops) c z h = go (sameCode (s .code) c) refl (place-at shops c z)
@@ -188,15 +185,15 @@ place-at (s ∷ shops) c z h = go (sameCode (s .code) c) refl (place-at shops c 
     go false e ih = let l : suc (place shops c) < suc (length shops) = rw (e, place) at h in rw (e, place) (ih (omega arith))
 
 -- and no later one stands for it
-pub place-head : (s : Listed) (shops : List Listed) (c : Code) → sameCode (s .code) c ≡ true → place (s ∷ shops) c ≡ 0
+pub place-head : (s : Entry) (shops : List Entry) (c : Code) → sameCode (s .code) c ≡ true → place (s ∷ shops) c ≡ 0
 unfolding place
 place-head s shops c e = rw (e, place)
 
-pub place-later : (s : Listed) (shops : List Listed) (c : Code) → sameCode (s .code) c ≡ false → place (s ∷ shops) c ≡ suc (place shops c)
+pub place-later : (s : Entry) (shops : List Entry) (c : Code) → sameCode (s .code) c ≡ false → place (s ∷ shops) c ≡ suc (place shops c)
 unfolding place
 place-later s shops c e = rw (e, place)
 
-pub place-within : (shops : List Listed) (c : Code) → place shops c ≤ length shops
+pub place-within : (shops : List Entry) (c : Code) → place shops c ≤ length shops
 unfolding place
 place-within [] c = omega arith
 place-within (s ∷ shops) c = go (sameCode (s .code) c) refl (place-within shops c)
@@ -206,7 +203,7 @@ place-within (s ∷ shops) c = go (sameCode (s .code) c) refl (place-within shop
     go false e h = rw (e, place) (omega arith)
 
 -- no twins: the first shop's code is not among the others, and there are none among those
-pub single-more : (s : Listed) (shops : List Listed) → twins (s ∷ shops) ≡ false → (among shops (s .code) ≡ false) × (twins shops ≡ false)
+pub single-more : (s : Entry) (shops : List Entry) → twins (s ∷ shops) ≡ false → (among shops (s .code) ≡ false) × (twins shops ≡ false)
 unfolding twins
 single-more s shops e = neither (among shops (s .code)) (twins shops) e
 

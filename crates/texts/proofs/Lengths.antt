@@ -8,17 +8,18 @@ use native.Mathlib.Nat.{mul-le-mul-right, le-trans}
 use lib.ListN.{length, take, length-append, length-take}
 use lib.Dec.{eqb}
 use borrow.Author.Tests.{eqb-true}
-use Rattle.texts.specs.Bounds.{mostShops, mostDeps, most, registerRoom, slipRoom}
+use Rattle.texts.specs.Bounds.{mostShops, most, registerRoom, slipRoom}
 use Rattle.texts.specs.Bytes.{bytes, allOf}
 use Rattle.texts.specs.Layout.{Layout, _⟫_, _then_, key, shut, joined, group}
 use Rattle.texts.specs.Leaf.{number}
 use Rattle.texts.specs.Code.{code}
-use Rattle.texts.specs.Lines.{closed, six, codeLine, numberLine, pairLine}
-use Rattle.texts.specs.Register.{noListed, zeroListed, shopsLine, shopLine, shopLines, ownLine, registerParts, registerLayout}
-use Rattle.texts.specs.Slip.{noDep, zeroDep, payerLine, slipNumberLine, payeeLine, amountLine, depsLine, depLine, depLines, slipParts, slipLayout}
+use Rattle.texts.specs.Lines.{closed, six, codeLine, numberLine}
+use Rattle.texts.specs.Entries.{noEntry, zeroEntry, entryParts, entryLine, entryLines}
+use Rattle.texts.specs.Register.{shopsLine, shopLines, ownLine, registerParts, registerLayout}
+use Rattle.texts.specs.Slip.{payerLine, slipNumberLine, payeeLine, amountLine, depsLine, depLines, slipParts, slipLayout}
 use Rattle.texts.specs.declared.register.Register.{Register}
 use Rattle.texts.specs.declared.slip.Slip.{Slip}
-use Rattle.texts.proofs.Steps.{both}
+use Rattle.texts.proofs.Steps.{both, upto}
 use Rattle.texts.proofs.LawsLeaf.{digits-length}
 
 -- no text of L is longer than n
@@ -64,14 +65,13 @@ joined-most L n P (x ∷ xs) h =
     let m = native.Mathlib.Nat.suc-mul (length xs) n in
     omega arith
 
-pub group-most : {A : Type 0} (places : ℕ) (z : A) (unused : A → Bool) (L : Layout A) (n m : ℕ) → Most L m → Most (group places z unused L n) (places * m)
-group-most places z unused L n m P = record {
+pub group-most : {A : Type 0} (places : ℕ) (z : A) (unused : A → Bool) (L : Layout A) (n upper m : ℕ) → n ≤ upper → Most L m → Most (group places z unused L n) (upper * m)
+group-most places z unused L n upper m few P = record {
   most = λ xs h.
       let k = both (eqb (length xs) places) _ h in
       let l = both (allOf (L .legal) (take n xs)) _ (k .1) in
-      let e = eqb-true (length xs) places (k .0) in
       let t = length-take n xs in
-      let c : length (take n xs) ≤ places = omega arith in
+      let c : length (take n xs) ≤ upper = omega arith in
       le-trans (joined-most L m P (take n xs) (l .0)) (mul-le-mul-right m c);
 }
 
@@ -84,20 +84,24 @@ code-line-most name n e = subst (Most (codeLine name)) e (key-most name (code 10
 pub number-line-most : (name : List ℕ) (width least upper n : ℕ) → length name + (width + 1) ≡ n → Most (numberLine name width least upper) n
 number-line-most name width least upper n e = subst (Most (numberLine name width least upper)) e (key-most name (closed width least upper) (width + 1) (closed-most width least upper))
 
-pub pair-line-most : (name : List ℕ) → Most (pairLine name) (length name + 9 + 7)
-pair-line-most name = next-most (key name (code 58)) (λ _. six) (length name + 9) 7 (key-most name (code 58) 9 (code-most 58)) (λ _ _. closed-most 6 0 most)
+entry-line-most : (name : List ℕ) (n : ℕ) → length name + 16 ≡ n → Most (entryLine name) n
+entry-line-most name n e = record {
+  most = λ s h.
+      let line = next-most (key name (code 58)) (λ _. six) (length name + 9) 7 (key-most name (code 58) 9 (code-most 58)) (λ _ _. closed-most 6 0 most) in
+      omega (arith, line .most (entryParts s) h);
+}
 
-shop-most : Most shopLine 21
-shop-most = record { most = λ s h. pair-line-most (bytes "shop=") .most (s .code, s .opening) h }
-
-dep-most : Most depLine 20
-dep-most = record { most = λ d h. pair-line-most (bytes "dep=") .most (d .code, d .number) h }
+-- a counted group of entries: its number line, and at most `upper` lines
+entries-most : (head name : List ℕ) (least upper m n : ℕ) → length head + 3 ≡ m → length name + 16 ≡ n → Most (numberLine head 2 least upper ⟫ entryLines name) (m + upper * n)
+entries-most head name least upper m n e f =
+    next-most (numberLine head 2 least upper) (entryLines name) m (upper * n) (number-line-most head 2 least upper m e)
+    (λ k h. group-most mostShops noEntry zeroEntry (entryLine name) k upper n (upto least k upper h) (entry-line-most name n f))
 
 pub register-most : (r : Register) → registerLayout .legal r ≡ true → length (registerLayout .text r) ≤ registerRoom
 unfolding registerLayout
 register-most r h =
     next-most (shopsLine ⟫ shopLines) (λ _. ownLine) 345 13
-    (next-most shopsLine shopLines 9 336 (number-line-most (bytes "shops=") 2 1 mostShops 9 refl) (λ n _. group-most mostShops noListed zeroListed shopLine n 21 shop-most))
+    (entries-most (bytes "shops=") (bytes "shop=") 1 _ 9 21 refl refl)
     (λ _ _. code-line-most (bytes "own=") 13 refl)
     .most (registerParts r) h
 
@@ -108,5 +112,5 @@ slip-most s h =
     (λ _ _. next-most slipNumberLine (λ _. payeeLine then amountLine then (depsLine ⟫ depLines)) 14 337 (number-line-most (bytes "number=") 6 0 most 14 refl)
     (λ _ _. next-most payeeLine (λ _. amountLine then (depsLine ⟫ depLines)) 15 322 (code-line-most (bytes "payee=") 15 refl)
     (λ _ _. next-most amountLine (λ _. depsLine ⟫ depLines) 14 308 (number-line-most (bytes "amount=") 6 0 most 14 refl)
-    (λ _ _. next-most depsLine depLines 8 300 (number-line-most (bytes "deps=") 2 0 mostDeps 8 refl) (λ n _. group-most mostDeps noDep zeroDep depLine n 20 dep-most)))))
+    (λ _ _. entries-most (bytes "deps=") (bytes "dep=") 0 _ 8 20 refl refl))))
     .most (slipParts s) h

@@ -13,13 +13,14 @@ use Rattle.texts.specs.Bytes.{bytes, found, orZeros}
 use Rattle.texts.specs.Layout.{joined}
 use Rattle.texts.specs.Leaf.{digits}
 use Rattle.texts.specs.Code.{isCode, spelled}
-use Rattle.texts.specs.Lines.{six, pairLine}
+use Rattle.texts.specs.Lines.{six}
+use Rattle.texts.specs.Entries.{noEntry, entryLine}
 use Rattle.texts.specs.Answers.{first, answerOf, form}
-use Rattle.texts.specs.Register.{noListed, shopsLine, shopLine, ownLine, registerLayout, shopsOf, position, listed, registerAnswer, registerRead}
+use Rattle.texts.specs.Register.{shopsLine, shopLine, ownLine, registerLayout, shopsOf, position, listed, registerAnswer, registerRead}
 use Rattle.texts.specs.Slip.{noSlip, payerLine, slipNumberLine, amountLine, depsLine, depLine, slipLayout, slipIn, slipRead}
 use Rattle.texts.specs.Payee.{Part, source, shown, placed, beforeShop, beforePayee, inRegister, startInRegister, payeeOf, payeePart}
 use Rattle.texts.specs.declared.code.Code.{Code}
-use Rattle.texts.specs.declared.register.Listed.{Listed}
+use Rattle.texts.specs.declared.entry.Entry.{Entry}
 use Rattle.texts.specs.declared.register.Register.{Register}
 use Rattle.texts.specs.declared.register.RegisterRead.{RegisterRead}
 use Rattle.texts.specs.declared.slip.Slip.{Slip}
@@ -63,15 +64,15 @@ in-register r c R e =
     let p = position r c in
     let l = ltb-true p (length us) e in
     let n = length-take-le (r .count) (r .shops) (omega (arith, R .fits .most, R .fits .places)) in
-    let u = getD us p noListed in
-    let at : u .code ≡ c = place-at us c noListed l in
+    let u = getD us p noEntry in
+    let at : u .code ≡ c = place-at us c noEntry l in
     let h = shopsLine .text (r .count) in
     let k = bytes "shop=" in
     let x = joined shopLine (take p us) in
-    let t = six .text (u .opening) in
+    let t = six .text (u .number) in
     let y = joined shopLine (drop (suc p) us) in
     let o = ownLine .text (r .own) in
-    let line : joined shopLine us ≡ x ++ (shopLine .text u ++ y) = ap (joined shopLine) (split-at us p noListed l) ∙ joined-append shopLine (take p us) (u ∷ drop (suc p) us) in
+    let line : joined shopLine us ≡ x ++ (shopLine .text u ++ y) = ap (joined shopLine) (split-at us p noEntry l) ∙ joined-append shopLine (take p us) (u ∷ drop (suc p) us) in
     let front : x ≡ joined shopLine (take p (r .shops)) = ap (joined shopLine) (take-take p (r .count) (r .shops) (omega arith)) in
     let m = spelled (u .code) in
     let rest = (58 ∷ []) ++ (t ++ (y ++ o)) in
@@ -83,25 +84,25 @@ in-register r c R e =
 -- ---- where the parts start
 
 -- the length of a line that has a code and six digits
-pair-length : (name : List ℕ) (c : Code) (n : ℕ) → isCode c ≡ true → length (pairLine name .text (c, n)) ≡ length name + c .len + 8
-pair-length name c n h =
-    let w = spelled c in
-    let a = length-append (name ++ (w ++ (58 ∷ []))) (digits 6 n ++ (10 ∷ [])) in
+entry-length : (name : List ℕ) (e : Entry) → isCode (e .code) ≡ true → length (entryLine name .text e) ≡ length name + e .code .len + 8
+entry-length name e h =
+    let w = spelled (e .code) in
+    let a = length-append (name ++ (w ++ (58 ∷ []))) (digits 6 (e .number) ++ (10 ∷ [])) in
     let b = length-append name (w ++ (58 ∷ [])) in
     let d = length-append w (58 ∷ []) in
-    let e = length-append (digits 6 n) (10 ∷ []) in
-    omega (arith, spelled-length c h, digits-length 6 n)
+    let f = length-append (digits 6 (e .number)) (10 ∷ []) in
+    omega (arith, spelled-length (e .code) h, digits-length 6 (e .number))
 
 -- the first i shops' lines have been passed
-pub record Started (shops : List Listed) (at i : ℕ) : Type 0 where
+pub record Started (shops : List Entry) (at i : ℕ) : Type 0 where
   pub passed : at ≡ 9 + length (joined shopLine (take i shops))
   pub small : at ≤ 9 + 21 * i
 
-pub started-none : (shops : List Listed) → Started shops 9 0
+pub started-none : (shops : List Entry) → Started shops 9 0
 unfolding joined
 started-none shops = record { passed = refl; small = omega arith }
 
-module _ (r : Register) (fits : registerLayout .legal r ≡ true) (i : ℕ) (h : i < r .count) (z : Listed) where
+module _ (r : Register) (fits : registerLayout .legal r ≡ true) (i : ℕ) (h : i < r .count) (z : Entry) where
   shop-code : isCode (getD (r .shops) i z .code) ≡ true
   shop-code =
       let R = register-fits r fits in
@@ -115,7 +116,7 @@ module _ (r : Register) (fits : registerLayout .legal r ≡ true) (i : ℕ) (h :
       let R = register-fits r fits in
       let s = getD (r .shops) i z in
       let e = ap length (joined-more shopLine z (r .shops) i (omega (arith, R .most, R .places))) ∙ length-append (joined shopLine (take i (r .shops))) (shopLine .text s) in
-      let l = pair-length (bytes "shop=") (s .code) (s .opening) shop-code in
+      let l = entry-length (bytes "shop=") s shop-code in
       let few = shop-few in
       record { passed = omega (arith, q .passed); small = omega (arith, q .small) }
 

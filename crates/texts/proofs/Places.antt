@@ -13,7 +13,7 @@ use Rattle.texts.specs.Code.{sameCode}
 use Rattle.texts.specs.Register.{place, twins, shopsOf, position, listed, ownRows, registerLayout, registerAnswer}
 use Rattle.texts.specs.Answers.{Meaning, answerOf}
 use Rattle.texts.specs.declared.code.Code.{Code}
-use Rattle.texts.specs.declared.register.Listed.{Listed}
+use Rattle.texts.specs.declared.entry.Entry.{Entry}
 use Rattle.texts.specs.declared.register.Register.{Register}
 use Rattle.texts.proofs.Legal.{place-head, place-later}
 use Rattle.texts.proofs.Values.{left-of, row-applies, row-passed}
@@ -31,13 +31,13 @@ same-order a b c d f g = elim (decLt a b) [
 
 -- ---- the first n shops, of which there are as many
 
-module _ (shops : List Listed) (n : ℕ) (enough : n ≤ length shops) where
+module _ (shops : List Entry) (n : ℕ) (enough : n ≤ length shops) where
   -- so many are the first n
   size-is : length (take n shops) ≡ n
   size-is = length-take-le n shops enough
 
   -- the shop at i, and those after it
-  rest-of : (i : ℕ) (z : Listed) → i < n → drop i (take n shops) ≡ getD shops i z ∷ drop (i + 1) (take n shops)
+  rest-of : (i : ℕ) (z : Entry) → i < n → drop i (take n shops) ≡ getD shops i z ∷ drop (i + 1) (take n shops)
   rest-of i z h = left-of (take n shops) i z (omega (arith, size-is)) ∙ ap (λ s. s ∷ drop (i + 1) (take n shops)) (getD-take n shops i z h)
 
   -- none is left
@@ -47,13 +47,13 @@ module _ (shops : List Listed) (n : ℕ) (enough : n ≤ length shops) where
 -- ---- looking for a code from a position on
 
 -- the code is not between `from` and i: its position is its position from i on
-pub record Sought (shops : List Listed) (n from : ℕ) (c : Code) (i : ℕ) : Type 0 where
+pub record Sought (shops : List Entry) (n from : ℕ) (c : Code) (i : ℕ) : Type 0 where
   pub enough : n ≤ length shops
   pub within : i ≤ n
   pub left : from + place (drop from (take n shops)) c ≡ i + place (drop i (take n shops)) c
 
 -- none is looked at yet
-pub sought-none : (shops : List Listed) (n from : ℕ) (c : Code) → n ≤ length shops → from ≤ n → Sought shops n from c from
+pub sought-none : (shops : List Entry) (n from : ℕ) (c : Code) → n ≤ length shops → from ≤ n → Sought shops n from c from
 sought-none shops n from c l h = record { enough = l; within = h; left = refl }
 
 -- where there are no shops
@@ -61,8 +61,8 @@ no-place : (c : Code) → place [] c ≡ 0
 unfolding place
 no-place c = refl
 
-module _ {shops : List Listed} {n from : ℕ} {c : Code} {i : ℕ} (s : Sought shops n from c i) where
-  module _ (z : Listed) (h : i < n) (t : Bool) (e : t ≡ sameCode (getD shops i z .code) c) where
+module _ {shops : List Entry} {n from : ℕ} {c : Code} {i : ℕ} (s : Sought shops n from c i) where
+  module _ (z : Entry) (h : i < n) (t : Bool) (e : t ≡ sameCode (getD shops i z .code) c) where
     -- the position from i on, with the shop at i taken apart
     here : place (drop i (take n shops)) c ≡ place (getD shops i z ∷ drop (i + 1) (take n shops)) c
     here = ap (λ l. place l c) (rest-of shops n (s .enough) i z h)
@@ -86,13 +86,13 @@ module _ {shops : List Listed} {n from : ℕ} {c : Code} {i : ℕ} (s : Sought s
 -- ---- looking for equal codes
 
 -- no shop before i has its code again after it: the shops from i on decide
-pub record Single (shops : List Listed) (n i : ℕ) : Type 0 where
+pub record Single (shops : List Entry) (n i : ℕ) : Type 0 where
   pub enough : n ≤ length shops
   pub within : i ≤ n
   pub left : twins (take n shops) ≡ twins (drop i (take n shops))
 
 -- no shop is asked yet
-pub single-none : (shops : List Listed) (n : ℕ) → n ≤ length shops → Single shops n 0
+pub single-none : (shops : List Entry) (n : ℕ) → n ≤ length shops → Single shops n 0
 single-none shops n l = record { enough = l; within = omega arith; left = refl }
 
 -- where there are no shops
@@ -100,14 +100,14 @@ no-twins : twins [] ≡ false
 unfolding twins
 no-twins = refl
 
-module _ {shops : List Listed} {n i : ℕ} (s : Single shops n i) where
+module _ {shops : List Entry} {n i : ℕ} (s : Single shops n i) where
   -- p is where the code of the shop at i stands after it
-  module _ (z : Listed) (h : i < n) (p : ℕ) (e : p ≡ i + 1 + place (drop (i + 1) (take n shops)) (getD shops i z .code)) where
+  module _ (z : Entry) (h : i < n) (p : ℕ) (e : p ≡ i + 1 + place (drop (i + 1) (take n shops)) (getD shops i z .code)) where
     -- the shop at i, and those after it
     after : twins (take n shops) ≡ ltb p n || twins (drop (i + 1) (take n shops))
     unfolding twins
     after =
-        let rest : List Listed = drop (i + 1) (take n shops) in
+        let rest : List Entry = drop (i + 1) (take n shops) in
         let l : length rest ≡ n - (i + 1) = length-drop (i + 1) (take n shops) ∙ ap (λ k. k - (i + 1)) (size-is shops n (s .enough)) in
         s .left ∙ ap twins (rest-of shops n (s .enough) i z h)
         ∙ ap (λ b. b || twins rest) (same-order (place rest (getD shops i z .code)) (length rest) p n (λ k. omega arith) (λ k. omega arith))

@@ -8,6 +8,7 @@ use native.Mathlib.Omega.{arith}
 use lib.ListN.{length, take, drop}
 use lib.Seq.{take-at}
 use borrow.Author.Tests.{eq-eqb, ne-eqb, not-false}
+use Rattle.texts.specs.Bounds.{registerRoom}
 use Rattle.texts.specs.Layout.{Layout}
 use Rattle.texts.specs.Answers.{first, answerOf, form, room}
 use Rattle.texts.specs.Written.{over, answered, buffered}
@@ -27,7 +28,7 @@ use Rattle.texts.proofs.Legal.{read-legal}
 use Rattle.texts.proofs.Lengths.{register-most, slip-most}
 use Rattle.texts.proofs.Payees.{slip-carried, register-part, slip-part, no-payee, payee-bytes}
 use Rattle.texts.proofs.ReadingTexts.{register-answer, slip-answer}
-use Rattle.texts.proofs.WritingTexts.{refused, answer-there, form-there}
+use Rattle.texts.proofs.WritingTexts.{refused, there, slip-zero}
 
 one-to-one : {A : Type 0} (L : Layout A) → Lawful L → OneToOne L
 one-to-one L P = record { back = whole-back L P; same = whole-only L P; oneText = one-text L P; oneValue = one-value L P }
@@ -69,18 +70,18 @@ register-reads-back r d e =
     ∙ ap (λ n. record { answer = n; register = elim n [ zero ↦ r | suc m ↦ noRegister ] }) (w .1)
 
 pub slip-writes-back : SlipWritesBack
-unfolding buffered first
+unfolding buffered
 slip-writes-back text d e h =
     let carried = slip-carried text (slipRead text) refl e in
     let o = slip-only text (slipRead text .slip) carried in
-    ap (λ a. buffered a (slipLayout .text (slipRead text .slip)) d) (form-there (slipRead text .slip) d true h (sym (o .0))) ∙ ap (λ t. over t d) (sym (o .1))
+    ap (λ a. buffered a (slipLayout .text (slipRead text .slip)) d) (slip-zero (slipRead text .slip) d h (o .0)) ∙ ap (λ t. over t d) (sym (o .1))
 
 pub register-writes-back : RegisterWritesBack
-unfolding buffered
+unfolding buffered registerWriteAnswer registerAnswer
 register-writes-back text d e h =
     let O = read-legal text e in
     let r = registerRead text .register in
-    let zero-answer = answer-there r d h ∙ ap registerAnswer (O .given) ∙ O .legal in
+    let zero-answer = there registerRoom _ d h ∙ ap registerAnswer (O .given) ∙ O .legal in
     ap (λ a. buffered a (registerLayout .text r) d) zero-answer
     ∙ ap (λ t. over t d) (ap (registerLayout .text) (O .given) ∙ sym (register-only text (O .register) (O .carried) .1))
 

@@ -1,4 +1,4 @@
--- Reading a register and a slip: the lines put together, and what the whole text answers.
+-- Reading a register and a slip: the parts put together, and what the whole text answers.
 use mathlib.Core.Path.{_≡_, refl, sym, ap, _∙_}
 use mathlib.Core.Bool.{Bool, true, false, not, _&&_}
 use mathlib.Core.Option.{Option, none, some}
@@ -7,28 +7,35 @@ use Prim.Native.Nat.{ℕ, zero, suc}
 use lib.Dec.{eqb}
 use lib.ListN.{length}
 use Rattle.texts.specs.Bytes.{found, orZeros}
+use Rattle.texts.specs.Layout.{key}
+use Rattle.texts.specs.Code.{code}
+use Rattle.texts.specs.Lines.{six}
+use Rattle.texts.specs.Entries.{entryParts, partsEntry, entryLine}
 use Rattle.texts.specs.Answers.{first, answerOf, form}
 use Rattle.texts.specs.Register.{noRegister, shopsLine, shopLines, ownLine, registerParts, partsRegister, registerLayout, registerIn, ownRows, registerRows, registerTextAnswer, registerRead}
 use Rattle.texts.specs.Slip.{noSlip, payerLine, slipNumberLine, payeeLine, amountLine, depsLine, depLines, slipParts, partsSlip, slipLayout, slipIn, slipRead}
 use Rattle.texts.specs.Inside.{Reads}
 use Rattle.texts.specs.declared.code.Code.{Code}
 use Rattle.texts.specs.declared.cursor.Cursor.{Cursor}
-use Rattle.texts.specs.declared.register.Listed.{Listed}
+use Rattle.texts.specs.declared.entry.Entry.{Entry}
 use Rattle.texts.specs.declared.register.Register.{Register}
 use Rattle.texts.specs.declared.register.RegisterRead.{RegisterRead}
-use Rattle.texts.specs.declared.slip.Dep.{Dep}
 use Rattle.texts.specs.declared.slip.Slip.{Slip}
 use Rattle.texts.specs.declared.slip.SlipRead.{SlipRead}
 use Rattle.texts.proofs.Reading.{reads-then, reads-both, reads-of, whole-read, whole-unread}
 
 -- ---- the lines put together
 
-pub register-lines : {s : List ℕ} {a b c d : Cursor} {count : ℕ} {shops : List Listed} {own : Code} → Reads shopsLine s a count b → Reads (shopLines count) s b shops c
+pub entry-parts : {s : List ℕ} {a b c : Cursor} {k : Code} {n : ℕ} (name : List ℕ) → Reads (key name (code 58)) s a k b → Reads six s b n c
+    → Reads (entryLine name) s a (record { code = k; number = n }) c
+entry-parts name P Q = reads-of entryParts partsEntry (reads-both P Q)
+
+pub register-lines : {s : List ℕ} {a b c d : Cursor} {count : ℕ} {shops : List Entry} {own : Code} → Reads shopsLine s a count b → Reads (shopLines count) s b shops c
     → Reads ownLine s c own d → Reads registerLayout s a (record { count = count; shops = shops; own = own }) d
 unfolding registerLayout
 register-lines P Q R = reads-of registerParts partsRegister (reads-both (reads-then shopLines P Q) R)
 
-pub slip-lines : {s : List ℕ} {a b c d e f g : Cursor} {payer payee : Code} {number amount count : ℕ} {deps : List Dep} → Reads payerLine s a payer b
+pub slip-lines : {s : List ℕ} {a b c d e f g : Cursor} {payer payee : Code} {number amount count : ℕ} {deps : List Entry} → Reads payerLine s a payer b
     → Reads slipNumberLine s b number c → Reads payeeLine s c payee d → Reads amountLine s d amount e → Reads depsLine s e count f → Reads (depLines count) s f deps g
     → Reads slipLayout s a (record { payer = payer; number = number; payee = payee; amount = amount; count = count; deps = deps }) g
 unfolding slipLayout

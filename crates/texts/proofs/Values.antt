@@ -1,4 +1,4 @@
--- What the tests of values come to: the places of an array one after the other, codes, pairs, registers and slips.
+-- What the tests of values come to: the places of an array one after the other, codes, entries, registers and slips.
 use mathlib.Core.Path.{_≡_, refl, sym, ap, _∙_}
 use mathlib.Core.Bool.{Bool, true, false, not, _&&_, and-assoc, and-false, and-true, false≢true}
 use mathlib.Core.List.{List, [], _∷_, _++_, map}
@@ -12,12 +12,13 @@ use borrow.Author.Tests.{lt-ltb, le-ltb, le-leb, lt-leb, eq-eqb, ne-eqb, not-tru
 use Rattle.texts.specs.Bytes.{sameBytes, allOf}
 use Rattle.texts.specs.Leaf.{digit}
 use Rattle.texts.specs.Code.{noCode, isCode, sameCode, codeOf}
-use Rattle.texts.specs.Lines.{pairLine}
-use Rattle.texts.specs.Register.{zeroListed, shopsLine, shopLine, shopLines, registerLayout}
-use Rattle.texts.specs.Slip.{zeroDep, depLine, slipLayout}
-use Rattle.texts.specs.Inside.{passes, zeroPair}
+use Rattle.texts.specs.Entries.{isEntry, zeroEntry}
+use Rattle.texts.specs.Register.{shopsLine, shopLines, registerLayout}
+use Rattle.texts.specs.Slip.{slipLayout}
+use Rattle.texts.specs.Inside.{passes}
 use Rattle.texts.specs.Answers.{Meaning, Row, numberOf, answerOf}
 use Rattle.texts.specs.declared.code.Code.{Code}
+use Rattle.texts.specs.declared.entry.Entry.{Entry}
 use Rattle.texts.specs.declared.register.Register.{Register}
 use Rattle.texts.specs.declared.slip.Slip.{Slip}
 use Rattle.texts.proofs.Steps.{and}
@@ -74,14 +75,13 @@ left-of xs i z h = rw (add-one, drop-cons xs i z)
 
 -- ---- the places of an array: the first n pass the one test, the others the other
 
--- `parts` is what the tests look at in a place.
-module _ {A B : Type 0} (parts : B → A) (used unused : A → Bool) where
+module _ {A : Type 0} (used unused : A → Bool) where
   -- every place passes its test
-  abbrev pub allPass : ℕ → List B → Bool
-  allPass n xs = allOf (λ x. used (parts x)) (take n xs) && allOf (λ x. unused (parts x)) (drop n xs)
+  abbrev pub allPass : ℕ → List A → Bool
+  allPass n xs = allOf used (take n xs) && allOf unused (drop n xs)
 
   -- the first place, and the others
-  next-place : (n i m : ℕ) → n - i ≡ m → (x : B) (xs : List B) → allPass m (x ∷ xs) ≡ passes used unused (ltb i n) (parts x) && allPass (n - (i + 1)) xs
+  next-place : (n i m : ℕ) → n - i ≡ m → (x : A) (xs : List A) → allPass m (x ∷ xs) ≡ passes used unused (ltb i n) x && allPass (n - (i + 1)) xs
   unfolding allOf
   next-place n i zero e x xs =
       let t : ltb i n ≡ false = le-ltb i n (omega arith) in
@@ -90,40 +90,40 @@ module _ {A B : Type 0} (parts : B → A) (used unused : A → Bool) where
   next-place n i (suc m) e x xs =
       let t : ltb i n ≡ true = lt-ltb i n (omega arith) in
       let k : n - (i + 1) ≡ m = omega arith in
-      rw (t, k) (and-assoc (used (parts x)) (allOf (λ x. used (parts x)) (take m xs)) (allOf (λ x. unused (parts x)) (drop m xs)))
+      rw (t, k) (and-assoc (used x) (allOf used (take m xs)) (allOf unused (drop m xs)))
 
   -- the places before i pass: the places from i on decide
-  pub record Passed (n : ℕ) (xs : List B) (i : ℕ) : Type 0 where
+  pub record Passed (n : ℕ) (xs : List A) (i : ℕ) : Type 0 where
     pub left : allPass n xs ≡ allPass (n - i) (drop i xs)
 
   -- no place is asked yet
-  pub passed-none : (n : ℕ) (xs : List B) → Passed n xs 0
+  pub passed-none : (n : ℕ) (xs : List A) → Passed n xs 0
   passed-none n xs = let e : n ≡ n - 0 = omega arith in record { left = ap (λ k. allPass k xs) e }
 
-module _ {A B : Type 0} {parts : B → A} {used unused : A → Bool} {n : ℕ} {xs : List B} {i : ℕ} (p : Passed parts used unused n xs i) where
-  module _ (z : B) (h : i < length xs) (t : Bool) (e : t ≡ passes used unused (ltb i n) (parts (getD xs i z))) where
+module _ {A : Type 0} {used unused : A → Bool} {n : ℕ} {xs : List A} {i : ℕ} (p : Passed used unused n xs i) where
+  module _ (z : A) (h : i < length xs) (t : Bool) (e : t ≡ passes used unused (ltb i n) (getD xs i z)) where
     -- the place at i, whose test comes to t, and those after it
-    at-place : allPass parts used unused n xs ≡ t && allPass parts used unused (n - (i + 1)) (drop (i + 1) xs)
+    at-place : allPass used unused n xs ≡ t && allPass used unused (n - (i + 1)) (drop (i + 1) xs)
     at-place =
         p .left
-        ∙ ap (allPass parts used unused (n - i)) (left-of xs i z h)
-        ∙ next-place parts used unused n i (n - i) refl (getD xs i z) (drop (i + 1) xs)
-        ∙ ap (λ b. b && allPass parts used unused (n - (i + 1)) (drop (i + 1) xs)) (sym e)
+        ∙ ap (allPass used unused (n - i)) (left-of xs i z h)
+        ∙ next-place used unused n i (n - i) refl (getD xs i z) (drop (i + 1) xs)
+        ∙ ap (λ b. b && allPass used unused (n - (i + 1)) (drop (i + 1) xs)) (sym e)
 
     -- the place passes: one more
-    pub passed-more : not t ≡ false → Passed parts used unused n xs (i + 1)
-    passed-more y = record { left = at-place ∙ ap (λ b. b && allPass parts used unused (n - (i + 1)) (drop (i + 1) xs)) (not-false t y) }
+    pub passed-more : not t ≡ false → Passed used unused n xs (i + 1)
+    passed-more y = record { left = at-place ∙ ap (λ b. b && allPass used unused (n - (i + 1)) (drop (i + 1) xs)) (not-false t y) }
 
     -- the place does not pass
-    pub passed-fails : not t ≡ true → false ≡ allPass parts used unused n xs
-    passed-fails y = sym (at-place ∙ ap (λ b. b && allPass parts used unused (n - (i + 1)) (drop (i + 1) xs)) (not-true t y))
+    pub passed-fails : not t ≡ true → false ≡ allPass used unused n xs
+    passed-fails y = sym (at-place ∙ ap (λ b. b && allPass used unused (n - (i + 1)) (drop (i + 1) xs)) (not-true t y))
 
   -- no place is left
-  pub passed-done : length xs ≤ i → true ≡ allPass parts used unused n xs
+  pub passed-done : length xs ≤ i → true ≡ allPass used unused n xs
   unfolding allOf
   passed-done h =
       let e : drop i xs ≡ [] = drop-of-length-le xs h in
-      sym (p .left ∙ ap (allPass parts used unused (n - i)) e ∙ rw (take-nil, drop-nil))
+      sym (p .left ∙ ap (allPass used unused (n - i)) e ∙ rw (take-nil, drop-nil))
 
 -- ---- codes
 
@@ -168,20 +168,20 @@ same-len a b e = sym (ap (λ t. t && sameBytes (a .digits) (b .digits)) (ne-eqb 
 -- a code's places are eight
 module _ (c : Code) (places : length (c .digits) ≡ 8) where
   -- what is left to ask of it
-  code-is : isCode c ≡ (leb 1 (c .len) && leb (c .len) 8) && allPass (λ b. b) digit (eqb 0) (c .len) (c .digits)
-  code-is = ap (λ t. t && ((leb 1 (c .len) && leb (c .len) 8) && allPass (λ b. b) digit (eqb 0) (c .len) (c .digits))) (eq-eqb _ _ places)
+  code-is : isCode c ≡ (leb 1 (c .len) && leb (c .len) 8) && allPass digit (eqb 0) (c .len) (c .digits)
+  code-is = ap (λ t. t && ((leb 1 (c .len) && leb (c .len) 8) && allPass digit (eqb 0) (c .len) (c .digits))) (eq-eqb _ _ places)
 
   -- a code of no digit
   pub code-few : c .len < 1 → false ≡ isCode c
-  code-few h = sym (code-is ∙ below 1 (c .len) 8 (allPass (λ b. b) digit (eqb 0) (c .len) (c .digits)) h)
+  code-few h = sym (code-is ∙ below 1 (c .len) 8 (allPass digit (eqb 0) (c .len) (c .digits)) h)
 
   -- a code of too many
   pub code-many : 8 < c .len → false ≡ isCode c
-  code-many h = sym (code-is ∙ above 1 (c .len) 8 (allPass (λ b. b) digit (eqb 0) (c .len) (c .digits)) h)
+  code-many h = sym (code-is ∙ above 1 (c .len) 8 (allPass digit (eqb 0) (c .len) (c .digits)) h)
 
   -- its places decide
-  pub code-rest : 1 ≤ c .len → c .len ≤ 8 → (t : Bool) → t ≡ allPass (λ b. b) digit (eqb 0) (c .len) (c .digits) → t ≡ isCode c
-  code-rest h l t e = e ∙ sym (code-is ∙ within 1 (c .len) 8 (allPass (λ b. b) digit (eqb 0) (c .len) (c .digits)) h l)
+  pub code-rest : 1 ≤ c .len → c .len ≤ 8 → (t : Bool) → t ≡ allPass digit (eqb 0) (c .len) (c .digits) → t ≡ isCode c
+  code-rest h l t e = e ∙ sym (code-is ∙ within 1 (c .len) 8 (allPass digit (eqb 0) (c .len) (c .digits)) h l)
 
 -- ---- a code from bytes
 
@@ -198,7 +198,7 @@ unfolding codeOf
 code-of s t e = ap (made s) e
 
 -- bytes that are all digits, as places that are all used
-all-used : (s : List ℕ) → allPass (λ b. b) digit (eqb 0) (length s) s ≡ allOf digit s
+all-used : (s : List ℕ) → allPass digit (eqb 0) (length s) s ≡ allOf digit s
 unfolding allOf
 all-used s = rw (take-length s, drop-length s) (and-true (allOf digit s))
 
@@ -206,11 +206,11 @@ all-used s = rw (take-length s, drop-length s) (and-true (allOf digit s))
 pub record Copied (s ds : List ℕ) (i : ℕ) : Type 0 where
   pub within : i ≤ length s
   pub holds : ds ≡ take i s ++ replicate (8 - i) 0
-  pub passed : Passed (λ b. b) digit (eqb 0) (length s) s i
+  pub passed : Passed digit (eqb 0) (length s) s i
 
 -- no byte is copied yet
 pub copied-none : (s : List ℕ) → Copied s (replicate 8 0) 0
-copied-none s = record { within = omega arith; holds = refl; passed = passed-none (λ b. b) digit (eqb 0) (length s) s }
+copied-none s = record { within = omega arith; holds = refl; passed = passed-none digit (eqb 0) (length s) s }
 
 module _ (s ds : List ℕ) (i : ℕ) (c : Copied s ds i) (few : length s ≤ 8) where
   module _ (h : i < length s) (t : Bool) (e : t ≡ digit (getD s i 0)) where
@@ -262,25 +262,24 @@ module _ (s : List ℕ) (none : Code) (e : none ≡ noCode) where
   pub no-code-bad : allOf digit s ≡ false → none ≡ codeOf s
   no-code-bad d = e ∙ sym (code-of s false (ap (λ t. (leb 1 (length s) && leb (length s) 8) && t) d ∙ and-false (leb 1 (length s) && leb (length s) 8)))
 
--- ---- a code with a number
+-- ---- entries
 
-module _ (name : List ℕ) (c : Code) (n : ℕ) where
+module _ (e : Entry) where
   -- the number can stand in a line: the code decides
-  pub pair-fits : n ≤ 999999 → isCode c ≡ pairLine name .legal (c, n)
-  pair-fits h = sym (ap (λ t. isCode c && t) (within 0 n 999999 true (omega arith) h) ∙ and-true (isCode c))
+  pub entry-fits : e .number ≤ 999999 → isCode (e .code) ≡ isEntry e
+  entry-fits h = sym (ap (λ t. isCode (e .code) && t) (within 0 (e .number) 999999 true (omega arith) h) ∙ and-true (isCode (e .code)))
 
   -- it cannot
-  pub pair-large : 999999 < n → false ≡ pairLine name .legal (c, n)
-  pair-large h = sym (ap (λ t. isCode c && t) (above 0 n 999999 true h) ∙ and-false (isCode c))
+  pub entry-large : 999999 < e .number → false ≡ isEntry e
+  entry-large h = sym (ap (λ t. isCode (e .code) && t) (above 0 (e .number) 999999 true h) ∙ and-false (isCode (e .code)))
 
-module _ (c : Code) (n : ℕ) where
   -- the number is 0: the code decides
-  pub pair-zero : n ≡ 0 → (z : Code) → z ≡ noCode → sameCode c z ≡ zeroPair (c, n)
-  pair-zero h z e = ap (sameCode c) e ∙ sym (ap (λ t. sameCode c noCode && t) (eq-eqb n 0 h) ∙ and-true (sameCode c noCode))
+  pub entry-zero : e .number ≡ 0 → (z : Code) → z ≡ noCode → sameCode (e .code) z ≡ zeroEntry e
+  entry-zero h z i = ap (sameCode (e .code)) i ∙ sym (ap (λ t. sameCode (e .code) noCode && t) (eq-eqb (e .number) 0 h) ∙ and-true (sameCode (e .code) noCode))
 
   -- it is not
-  pub pair-not-zero : (n ≡ 0 → ⊥) → false ≡ zeroPair (c, n)
-  pair-not-zero h = sym (ap (λ t. sameCode c noCode && t) (ne-eqb n 0 h) ∙ and-false (sameCode c noCode))
+  pub entry-not-zero : (e .number ≡ 0 → ⊥) → false ≡ zeroEntry e
+  entry-not-zero h = sym (ap (λ t. sameCode (e .code) noCode && t) (ne-eqb (e .number) 0 h) ∙ and-false (sameCode (e .code) noCode))
 
 -- ---- registers and slips
 
@@ -289,8 +288,8 @@ pub slip-not : (s : Slip) → (SlipLegal s → ⊥) → false ≡ slipLayout .le
 slip-not s h = fails (slipLayout .legal s) (λ e. h (slip-legal s e))
 
 -- the dependencies decide, where the rest of the slip is legal
-pub slip-rest : (s : Slip) → length (s .deps) ≡ 15 → isCode (s .payer) ≡ true → isCode (s .payee) ≡ true → s .number ≤ 999999 → s .amount ≤ 999999 → s .count ≤ 15
-    → (t : Bool) → t ≡ allOf (depLine .legal) (take (s .count) (s .deps)) && allOf zeroDep (drop (s .count) (s .deps)) → t ≡ slipLayout .legal s
+pub slip-rest : (s : Slip) → length (s .deps) ≡ 16 → isCode (s .payer) ≡ true → isCode (s .payee) ≡ true → s .number ≤ 999999 → s .amount ≤ 999999 → s .count ≤ 15
+    → (t : Bool) → t ≡ allOf isEntry (take (s .count) (s .deps)) && allOf zeroEntry (drop (s .count) (s .deps)) → t ≡ slipLayout .legal s
 unfolding slipLayout
 slip-rest s places payer payee number amount count t e =
     skip _ _ t payer
@@ -298,7 +297,7 @@ slip-rest s places payer payee number amount count t e =
     (skip _ _ t payee
     (skip _ _ t (within 0 (s .amount) 999999 true (omega arith) amount)
     (skip _ _ t (within 0 (s .count) 15 true (omega arith) count)
-    (skip _ _ t (eq-eqb (length (s .deps)) 15 places) e)))))
+    (skip _ _ t (eq-eqb (length (s .deps)) 16 places) e)))))
 
 -- a register that some part keeps from having a text
 pub register-not : (r : Register) → (RegisterFits r → ⊥) → false ≡ registerLayout .legal r
@@ -306,7 +305,7 @@ register-not r h = fails (registerLayout .legal r) (λ e. h (register-fits r e))
 
 -- the shops decide, where the rest of the register is legal
 pub register-rest : (r : Register) → length (r .shops) ≡ 16 → 1 ≤ r .count → r .count ≤ 16 → isCode (r .own) ≡ true
-    → (t : Bool) → t ≡ allOf (shopLine .legal) (take (r .count) (r .shops)) && allOf zeroListed (drop (r .count) (r .shops)) → t ≡ registerLayout .legal r
+    → (t : Bool) → t ≡ allOf isEntry (take (r .count) (r .shops)) && allOf zeroEntry (drop (r .count) (r .shops)) → t ≡ registerLayout .legal r
 unfolding registerLayout
 register-rest r places some most own t e =
     let shops = shopsLine .legal (r .count) && shopLines (r .count) .legal (r .shops) in

@@ -1,4 +1,4 @@
--- Writing a register and a slip to a lent buffer: what is answered, and what the buffer then holds.
+-- Writing a value to a lent buffer: what is answered, and what the buffer then holds.
 use mathlib.Core.Path.{_≡_, refl, sym, ap, _∙_}
 use mathlib.Core.Bool.{Bool, true, false, not}
 use mathlib.Core.List.{List, [], _∷_, _++_}
@@ -9,15 +9,16 @@ use lib.Dec.{ltb}
 use lib.ListN.{length, drop}
 use borrow.Author.Tests.{lt-ltb, le-ltb, not-false}
 use Rattle.texts.specs.Bounds.{registerRoom, slipRoom}
-use Rattle.texts.specs.Answers.{Row, first, answerOf, form, room}
+use Rattle.texts.specs.Answers.{Row, answerOf, form, room}
 use Rattle.texts.specs.Written.{over, answered, buffered}
-use Rattle.texts.specs.Register.{registerLayout, registerAnswer, registerWriteAnswer, registerWritten, registerBuffer}
+use Rattle.texts.specs.Register.{registerLayout, registerAnswer}
 use Rattle.texts.specs.Slip.{slipLayout, slipWriteAnswer, slipWritten, slipBuffer}
 use Rattle.texts.specs.Inside.{Room, Wrote}
 use Rattle.texts.specs.declared.pen.Written.{Written}
 use Rattle.texts.specs.declared.register.Register.{Register}
 use Rattle.texts.specs.declared.slip.Slip.{Slip}
-use Rattle.texts.proofs.Firsts.{first-zero, applies, passes-by}
+use Rattle.texts.proofs.Firsts.{first-zero, no-rows, applies, passes-by}
+use Rattle.texts.proofs.Values.{row-applies, row-passed}
 use Rattle.texts.proofs.Lengths.{register-most, slip-most}
 
 -- ---- any answer
@@ -36,60 +37,55 @@ module _ (answer : ℕ) (text d : List ℕ) where
       let k : n ≡ length text = omega (arith, w .past) in
       (ap (λ c. record { answer = 0; count = c }) k ∙ ap (λ a. answered a text) (sym e), w .holds ∙ ap (λ m. text ++ drop m d) (zero-add (length text)) ∙ ap (λ a. buffered a text d) (sym e))
 
--- ---- the refusal tables: 11 first, then the rest
+-- ---- a buffer of at least so many bytes: 11 first, then the value's own rows
 
-room-first : (least : ℕ) (d : List ℕ) (rows : List Row) → length d < least → answerOf ((room, ltb (length d) least) ∷ rows) ≡ 11
-room-first least d rows h = applies room _ rows (lt-ltb (length d) least h)
+abbrev lentAnswer : ℕ → List Row → List ℕ → ℕ
+lentAnswer least rows d = answerOf ((room, ltb (length d) least) ∷ rows)
 
-room-there : (least : ℕ) (d : List ℕ) (rows : List Row) → least ≤ length d → answerOf ((room, ltb (length d) least) ∷ rows) ≡ answerOf rows
-room-there least d rows h = passes-by room _ rows (le-ltb (length d) least h)
+-- where the buffer is that large, the rows decide
+pub there : (least : ℕ) (rows : List Row) (d : List ℕ) → least ≤ length d → lentAnswer least rows d ≡ answerOf rows
+there least rows d h = passes-by room _ rows (le-ltb (length d) least h)
 
-module _ (r : Register) (d : List ℕ) where
-  pub register-small : length d < registerRoom → (_≡_ {A = Written} (record { answer = 11; count = 0 }) (registerWritten r d)) × (d ≡ registerBuffer r d)
-  unfolding registerWriteAnswer
-  register-small h = refused _ (registerLayout .text r) d 11 (room-first registerRoom d _ h) (λ e. omega arith)
+module _ (least : ℕ) (rows : List Row) (text d : List ℕ) where
+  -- too small a buffer
+  pub small : length d < least → (_≡_ {A = Written} (record { answer = 11; count = 0 }) (answered (lentAnswer least rows d) text)) × (d ≡ buffered (lentAnswer least rows d) text d)
+  small h = refused _ text d 11 (applies room _ rows (lt-ltb (length d) least h)) (λ e. omega arith)
 
-  pub answer-there : registerRoom ≤ length d → registerWriteAnswer r d ≡ registerAnswer r
-  unfolding registerWriteAnswer registerAnswer
-  answer-there h = room-there registerRoom d _ h
+  -- a value that one of its rows refuses, and one that none does
+  module _ (h : least ≤ length d) (n : ℕ) (e : n ≡ answerOf rows) where
+    pub kept : (n ≡ 0 → ⊥) → (_≡_ {A = Written} (record { answer = n; count = 0 }) (answered (lentAnswer least rows d) text)) × (d ≡ buffered (lentAnswer least rows d) text d)
+    kept bad = refused _ text d n (there least rows d h ∙ sym e) bad
 
-  pub register-kept : (n : ℕ) → registerRoom ≤ length d → n ≡ registerAnswer r → (n ≡ 0 → ⊥) → (_≡_ {A = Written} (record { answer = n; count = 0 }) (registerWritten r d)) × (d ≡ registerBuffer r d)
-  register-kept n h e bad = refused _ (registerLayout .text r) d n (answer-there h ∙ sym e) bad
+    pub put : {d′ : List ℕ} {count : ℕ} → n ≡ 0 → Wrote d 0 text d′ count
+        → (_≡_ {A = Written} (record { answer = n; count = count }) (answered (lentAnswer least rows d) text)) × (d′ ≡ buffered (lentAnswer least rows d) text d)
+    put {count = count} z w =
+        let p = done (lentAnswer least rows d) text d (there least rows d h ∙ sym e ∙ z) w in
+        (ap (λ a. record { answer = a; count = count }) z ∙ p .0, p .1)
 
-  pub register-done : {d′ : List ℕ} {n : ℕ} (a : ℕ) → registerRoom ≤ length d → a ≡ registerAnswer r → a ≡ 0 → Wrote d 0 (registerLayout .text r) d′ n
-      → (_≡_ {A = Written} (record { answer = a; count = n }) (registerWritten r d)) × (d′ ≡ registerBuffer r d)
-  register-done {n = n} a h e z w =
-      let p = done (registerWriteAnswer r d) (registerLayout .text r) d (answer-there h ∙ sym e ∙ z) w in
-      (ap (λ x. record { answer = x; count = n }) z ∙ p .0, p .1)
+-- ---- a register with answer 0, and a slip that fits, have a text, and the buffer has room for it
 
-  -- a register with answer 0 has a text, and the buffer has room for it
-  pub register-writable : (a : ℕ) → registerRoom ≤ length d → a ≡ registerAnswer r → a ≡ 0 → (registerLayout .legal r ≡ true) × Room d 0 (registerLayout .text r)
-  unfolding registerAnswer
-  register-writable a h e z =
-      let fits = not-false _ (first-zero form _ _ (omega arith) (sym e ∙ z) .0) in
-      (fits, record { fits = omega (arith, register-most r fits) })
+pub register-writable : (r : Register) (d : List ℕ) (a : ℕ) → registerRoom ≤ length d → a ≡ registerAnswer r → a ≡ 0 → (registerLayout .legal r ≡ true) × Room d 0 (registerLayout .text r)
+unfolding registerAnswer
+register-writable r d a h e z =
+    let fits = not-false _ (first-zero form _ _ (omega arith) (sym e ∙ z) .0) in
+    (fits, record { fits = omega (arith, register-most r fits) })
 
-module _ (s : Slip) (d : List ℕ) where
-  -- a slip that fits has a text, and the buffer has room for it
-  pub slip-writable : (t : Bool) → slipRoom ≤ length d → t ≡ slipLayout .legal s → t ≡ true → (slipLayout .legal s ≡ true) × Room d 0 (slipLayout .text s)
-  slip-writable t h e f = let fits = sym e ∙ f in (fits, record { fits = omega (arith, slip-most s fits) })
+pub slip-writable : (s : Slip) (d : List ℕ) (t : Bool) → slipRoom ≤ length d → t ≡ slipLayout .legal s → t ≡ true → (slipLayout .legal s ≡ true) × Room d 0 (slipLayout .text s)
+slip-writable s d t h e f = let fits = sym e ∙ f in (fits, record { fits = omega (arith, slip-most s fits) })
 
-  pub slip-small : length d < slipRoom → (_≡_ {A = Written} (record { answer = 11; count = 0 }) (slipWritten s d)) × (d ≡ slipBuffer s d)
-  unfolding slipWriteAnswer
-  slip-small h = refused _ (slipLayout .text s) d 11 (room-first slipRoom d _ h) (λ e. omega arith)
+-- ---- a slip's own row, from the test that the code makes
 
-  pub form-there : (t : Bool) → slipRoom ≤ length d → t ≡ slipLayout .legal s → slipWriteAnswer s d ≡ answerOf ((form, not t) ∷ [])
-  unfolding slipWriteAnswer
-  form-there t h e = room-there slipRoom d _ h ∙ ap (λ b. answerOf ((form, not b) ∷ [])) (sym e)
+module _ (fits t : Bool) (e : t ≡ fits) where
+  pub slip-fine : t ≡ true → 0 ≡ answerOf ((form, not fits) ∷ [])
+  slip-fine y = row-passed form _ [] 0 (ap not (sym e ∙ y)) (sym no-rows)
 
-  pub slip-kept : (t : Bool) → slipRoom ≤ length d → t ≡ slipLayout .legal s → t ≡ false → (_≡_ {A = Written} (record { answer = 1; count = 0 }) (slipWritten s d)) × (d ≡ slipBuffer s d)
-  unfolding first
-  slip-kept t h e f = refused _ (slipLayout .text s) d 1 (form-there t h e ∙ ap (λ b. answerOf ((form, not b) ∷ [])) f) (λ e. omega arith)
+  pub slip-unfit : t ≡ false → 1 ≡ answerOf ((form, not fits) ∷ [])
+  slip-unfit n = row-applies form _ [] (ap not (sym e ∙ n))
 
-  pub slip-done : {d′ : List ℕ} {n : ℕ} (t : Bool) → slipRoom ≤ length d → t ≡ slipLayout .legal s → t ≡ true → Wrote d 0 (slipLayout .text s) d′ n
-      → (_≡_ {A = Written} (record { answer = 0; count = n }) (slipWritten s d)) × (d′ ≡ slipBuffer s d)
-  unfolding first
-  slip-done t h e f w = done _ (slipLayout .text s) d (form-there t h e ∙ ap (λ b. answerOf ((form, not b) ∷ [])) f) w
+-- a slip that fits, and a buffer that is large enough: answer 0
+pub slip-zero : (s : Slip) (d : List ℕ) → slipRoom ≤ length d → slipLayout .legal s ≡ true → slipWriteAnswer s d ≡ 0
+unfolding slipWriteAnswer
+slip-zero s d h fits = there slipRoom _ d h ∙ sym (slip-fine _ true (sym fits) refl)
 
 -- a write with answer 0: its count, and the buffer
 pub slip-put : (s : Slip) (d : List ℕ) → slipWriteAnswer s d ≡ 0 → (slipWritten s d .count ≡ length (slipLayout .text s)) × (slipBuffer s d ≡ over (slipLayout .text s) d)

@@ -1,15 +1,13 @@
 -- What the crate's private functions promise one another, in the terms of a layout. No public promise rests on a word of it.
 use mathlib.Core.Path.{_≡_}
-use mathlib.Core.Bool.{Bool, true, false, _&&_}
+use mathlib.Core.Bool.{Bool, true, false}
 use mathlib.Core.Option.{none, some}
 use mathlib.Core.List.{List, _++_}
 use Prim.Native.Nat.{ℕ, _+_, _-_, _≤_, _<_}
-use lib.Dec.{eqb}
 use lib.ListN.{length, take, drop, getD, replicate}
 use Rattle.texts.specs.Bounds.{codePlaces}
 use Rattle.texts.specs.Layout.{Layout}
 use Rattle.texts.specs.Leaf.{numeral, number, run}
-use Rattle.texts.specs.Code.{noCode, sameCode}
 use Rattle.texts.specs.declared.code.Code.{Code}
 use Rattle.texts.specs.declared.cursor.Cursor.{Cursor}
 
@@ -63,7 +61,3 @@ pub record Wrote (d : List ℕ) (at : ℕ) (t d′ : List ℕ) (next : ℕ) : Ty
 abbrev pub passes : {A : Type 0} → (A → Bool) → (A → Bool) → Bool → A → Bool
 passes used unused true x = used x
 passes used unused false x = unused x
-
--- A code and a number that stand in no used place: both zero.
-abbrev pub zeroPair : Code × ℕ → Bool
-zeroPair p = sameCode (p .0) noCode && eqb (p .1) 0

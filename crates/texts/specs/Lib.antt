@@ -5,6 +5,7 @@ pub mod Lawful
 pub mod Leaf
 pub mod Code
 pub mod Lines
+pub mod Entries
 pub mod Answers
 pub mod Written
 pub mod Register

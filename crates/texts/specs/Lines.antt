@@ -3,7 +3,7 @@ use mathlib.Core.List.{List}
 use Prim.Native.Nat.{ℕ}
 use Rattle.texts.specs.Bounds.{most}
 use Rattle.texts.specs.Bytes.{bytes}
-use Rattle.texts.specs.Layout.{Layout, _then_, key, shut}
+use Rattle.texts.specs.Layout.{Layout, key, shut}
 use Rattle.texts.specs.Leaf.{number}
 use Rattle.texts.specs.Code.{code}
 use Rattle.texts.specs.declared.code.Code.{Code}
@@ -23,7 +23,3 @@ codeLine name = key name (code 10)
 -- KEY=NUMBER
 abbrev pub numberLine : List ℕ → ℕ → ℕ → ℕ → Layout ℕ
 numberLine name width least upper = key name (closed width least upper)
-
--- KEY=CODE:NUMBER, as `shop=CODE:OPENING` and `dep=CODE:NUMBER`.
-abbrev pub pairLine : List ℕ → Layout (Code × ℕ)
-pairLine name = key name (code 58) then six

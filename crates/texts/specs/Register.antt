@@ -1,61 +1,52 @@
 -- The register's text: "`shops=` two digits 01 to 16; that many `shop=CODE:OPENING` lines, opening six digits; `own=CODE`."
-use mathlib.Core.Bool.{Bool, true, false, not, _&&_, _||_}
+use mathlib.Core.Bool.{Bool, true, false, not, _||_}
 use mathlib.Core.Option.{Option}
 use mathlib.Core.List.{List, [], _∷_}
 use Prim.Native.Nat.{ℕ, zero, suc}
 use lib.ListN.{length, take, replicate}
-use lib.Dec.{ltb, eqb}
+use lib.Dec.{ltb}
 use Rattle.texts.specs.Bounds.{mostShops, registerRoom}
 use Rattle.texts.specs.Bytes.{bytes, found, orZeros}
-use Rattle.texts.specs.Layout.{Layout, _⟫_, _then_, of, group, whole}
+use Rattle.texts.specs.Layout.{Layout, _⟫_, _then_, of, whole}
 use Rattle.texts.specs.Code.{noCode, sameCode}
-use Rattle.texts.specs.Lines.{codeLine, numberLine, pairLine}
+use Rattle.texts.specs.Lines.{codeLine, numberLine}
+use Rattle.texts.specs.Entries.{noEntry, entryLine, entryLines}
 use Rattle.texts.specs.Answers.{Row, form, shop, room, twin, answerOf}
 use Rattle.texts.specs.Written.{answered, buffered}
 use Rattle.texts.specs.declared.code.Code.{Code}
-use Rattle.texts.specs.declared.register.Listed.{Listed}
+use Rattle.texts.specs.declared.entry.Entry.{Entry}
 use Rattle.texts.specs.declared.register.Register.{Register}
 use Rattle.texts.specs.declared.register.RegisterRead.{RegisterRead}
 use Rattle.texts.specs.declared.pen.Written.{Written}
 
 -- ---- zeros
 
-abbrev pub noListed : Listed
-noListed = record { code = noCode; opening = 0 }
-
 abbrev pub noRegister : Register
-noRegister = record { count = 0; shops = replicate mostShops noListed; own = noCode }
-
--- An unused place is zero.
-abbrev pub zeroListed : Listed → Bool
-zeroListed s = sameCode (s .code) noCode && eqb (s .opening) 0
+noRegister = record { count = 0; shops = replicate mostShops noEntry; own = noCode }
 
 -- ---- the lines
 
 abbrev pub shopsLine : Layout ℕ
 shopsLine = numberLine (bytes "shops=") 2 1 mostShops
 
--- A shop and its parts.
-abbrev pub listedParts : Listed → Code × ℕ
-listedParts s = (s .code, s .opening)
+abbrev pub shopLine : Layout Entry
+shopLine = entryLine (bytes "shop=")
 
-abbrev pub partsListed : Code × ℕ → Listed
-partsListed p = record { code = p .0; opening = p .1 }
+abbrev pub shopLines : ℕ → Layout (List Entry)
+shopLines = entryLines (bytes "shop=")
 
-abbrev pub shopLine : Layout Listed
-shopLine = of listedParts partsListed (pairLine (bytes "shop="))
-
-abbrev pub shopLines : ℕ → Layout (List Listed)
-shopLines = group mostShops noListed zeroListed shopLine
+-- A shop's number is its opening credit.
+abbrev pub opening : Entry → ℕ
+opening s = s .number
 
 abbrev pub ownLine : Layout Code
 ownLine = codeLine (bytes "own=")
 
 -- A register and its parts.
-abbrev pub registerParts : Register → (ℕ × List Listed) × Code
+abbrev pub registerParts : Register → (ℕ × List Entry) × Code
 registerParts r = ((r .count, r .shops), r .own)
 
-abbrev pub partsRegister : (ℕ × List Listed) × Code → Register
+abbrev pub partsRegister : (ℕ × List Entry) × Code → Register
 partsRegister p = record { count = p .0 .0; shops = p .0 .1; own = p .1 }
 
 unfoldable pub registerLayout : Layout Register
@@ -68,20 +59,20 @@ registerIn text = whole registerLayout text
 -- ---- positions: "A position is a shop's place in the register, from 0."
 
 -- The place of a code in a list of shops; past the last where it is not listed.
-unfoldable pub place : List Listed → Code → ℕ
+unfoldable pub place : List Entry → Code → ℕ
 place [] c = 0
 place (s ∷ shops) c = elim (sameCode (s .code) c) [ true ↦ 0 | false ↦ suc (place shops c) ]
 
-abbrev pub among : List Listed → Code → Bool
+abbrev pub among : List Entry → Code → Bool
 among shops c = ltb (place shops c) (length shops)
 
 -- "two equal codes in a register"
-unfoldable pub twins : List Listed → Bool
+unfoldable pub twins : List Entry → Bool
 twins [] = false
 twins (s ∷ shops) = among shops (s .code) || twins shops
 
 -- The shops in use, and of a code: its position (the number of shops, where it is not listed), is it listed.
-abbrev pub shopsOf : Register → List Listed
+abbrev pub shopsOf : Register → List Entry
 shopsOf r = take (r .count) (r .shops)
 
 abbrev pub position : Register → Code → ℕ

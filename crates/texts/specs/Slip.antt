@@ -1,35 +1,29 @@
 -- The slip's text: "`payer=CODE`, `number=` six digits, `payee=CODE`, `amount=` six digits, `deps=` two digits 00 to 15, then that many
 -- `dep=CODE:NUMBER` lines, number six digits." The order of dependencies is no matter of form: "a breach is answer 5, not 1".
-use mathlib.Core.Bool.{Bool, not, _&&_}
+use mathlib.Core.Bool.{not}
 use mathlib.Core.Option.{Option}
 use mathlib.Core.List.{List, [], _∷_}
 use Prim.Native.Nat.{ℕ}
 use lib.ListN.{length, take, replicate}
-use lib.Dec.{ltb, eqb}
-use Rattle.texts.specs.Bounds.{mostDeps, most, slipRoom}
+use lib.Dec.{ltb}
+use Rattle.texts.specs.Bounds.{mostShops, mostDeps, most, slipRoom}
 use Rattle.texts.specs.Bytes.{bytes, found, orZeros}
-use Rattle.texts.specs.Layout.{Layout, _⟫_, _then_, of, group, whole}
-use Rattle.texts.specs.Code.{noCode, sameCode}
-use Rattle.texts.specs.Lines.{codeLine, numberLine, pairLine}
+use Rattle.texts.specs.Layout.{Layout, _⟫_, _then_, of, whole}
+use Rattle.texts.specs.Code.{noCode}
+use Rattle.texts.specs.Lines.{codeLine, numberLine}
+use Rattle.texts.specs.Entries.{noEntry, entryLine, entryLines}
 use Rattle.texts.specs.Answers.{form, room, answerOf}
 use Rattle.texts.specs.Written.{answered, buffered}
 use Rattle.texts.specs.declared.code.Code.{Code}
-use Rattle.texts.specs.declared.slip.Dep.{Dep}
+use Rattle.texts.specs.declared.entry.Entry.{Entry}
 use Rattle.texts.specs.declared.slip.Slip.{Slip}
 use Rattle.texts.specs.declared.slip.SlipRead.{SlipRead}
 use Rattle.texts.specs.declared.pen.Written.{Written}
 
 -- ---- zeros
 
-abbrev pub noDep : Dep
-noDep = record { code = noCode; number = 0 }
-
 abbrev pub noSlip : Slip
-noSlip = record { payer = noCode; number = 0; payee = noCode; amount = 0; count = 0; deps = replicate mostDeps noDep }
-
--- An unused place is zero.
-abbrev pub zeroDep : Dep → Bool
-zeroDep d = sameCode (d .code) noCode && eqb (d .number) 0
+noSlip = record { payer = noCode; number = 0; payee = noCode; amount = 0; count = 0; deps = replicate mostShops noEntry }
 
 -- ---- the lines
 
@@ -48,22 +42,15 @@ amountLine = numberLine (bytes "amount=") 6 0 most
 abbrev pub depsLine : Layout ℕ
 depsLine = numberLine (bytes "deps=") 2 0 mostDeps
 
--- A dependency and its parts.
-abbrev pub depParts : Dep → Code × ℕ
-depParts d = (d .code, d .number)
+abbrev pub depLine : Layout Entry
+depLine = entryLine (bytes "dep=")
 
-abbrev pub partsDep : Code × ℕ → Dep
-partsDep p = record { code = p .0; number = p .1 }
-
-abbrev pub depLine : Layout Dep
-depLine = of depParts partsDep (pairLine (bytes "dep="))
-
-abbrev pub depLines : ℕ → Layout (List Dep)
-depLines = group mostDeps noDep zeroDep depLine
+abbrev pub depLines : ℕ → Layout (List Entry)
+depLines = entryLines (bytes "dep=")
 
 -- A slip and its parts.
 abbrev pub SlipParts : Type 0
-SlipParts = Code × (ℕ × (Code × (ℕ × (ℕ × List Dep))))
+SlipParts = Code × (ℕ × (Code × (ℕ × (ℕ × List Entry))))
 
 abbrev pub slipParts : Slip → SlipParts
 slipParts s = (s .payer, (s .number, (s .payee, (s .amount, (s .count, s .deps)))))
@@ -89,7 +76,7 @@ unfoldable pub slipIn : List ℕ → Option Slip
 slipIn text = whole slipLayout text
 
 -- The dependencies in use.
-abbrev pub depsOf : Slip → List Dep
+abbrev pub depsOf : Slip → List Entry
 depsOf s = take (s .count) (s .deps)
 
 -- ---- answers: "Reading a slip: 1." "Writing a slip: 11, 1."

@@ -2,7 +2,7 @@
 
 // The shops that a register has room for.
 pub const SHOPS: usize = 16;
-// The dependencies that a slip has room for: every shop but the payer.
+// The dependencies that a slip has at most: every shop but the payer.
 pub const DEPS: usize = 15;
 // The digits that a code has room for.
 pub const CODE_DIGITS: usize = 8;

@@ -1,21 +1,12 @@
 // The lines of a text, read one after the other; each hands on the place after it.
-use crate::bounds::MOST;
-use crate::code::Code;
 use crate::cursor::CodeAt;
 use crate::cursor::Cursor;
 use crate::cursor::NumberAt;
 ghost use Prim.Native.Nat.{_≤_, _<_, _^_};
 ghost use Rattle.texts.specs.Layout.{key};
 ghost use Rattle.texts.specs.Code.{code};
-ghost use Rattle.texts.specs.Lines.{closed, numberLine, pairLine};
+ghost use Rattle.texts.specs.Lines.{closed, numberLine};
 ghost use Rattle.texts.specs.Inside.{Reads};
-
-// A code and a number that were read, and the place after them.
-pub(crate) struct PairAt {
-    pub(crate) code: Code,
-    pub(crate) number: u32,
-    pub(crate) next: Cursor,
-}
 
 // A key, a code and the byte that closes it.
 pub(crate) fn code_line(s: &[u8], c: Cursor, name: &[u8], closing: u8) -> CodeAt
@@ -26,7 +17,7 @@ pub(crate) fn code_line(s: &[u8], c: Cursor, name: &[u8], closing: u8) -> CodeAt
 }
 
 // A number and the end of its line.
-fn closed_number(s: &[u8], c: Cursor, width: usize, least: u32, upper: u32) -> NumberAt
+pub(crate) fn closed_number(s: &[u8], c: Cursor, width: usize, least: u32, upper: u32) -> NumberAt
     requires { ⌜ (width ≤ 6) × (upper < 10 ^ width) ⌝ }
     ensures { λ r. ⌜ (r .value ≤ upper) × Reads (closed width least upper) (now (s .entry)) c (r .value) (r .next) ⌝ }
 {
@@ -53,19 +44,4 @@ pub(crate) fn number_line(
 {
     let named = c.word(s, name);
     closed_number(s, named, width, least, upper)
-}
-
-// A key, a code, a colon and six digits.
-pub(crate) fn pair_line(s: &[u8], c: Cursor, name: &[u8]) -> PairAt
-    ensures { λ r. ⌜ Reads (pairLine (now (name .entry))) (now (s .entry)) c (r .code, r .number) (r .next) ⌝ }
-{
-    let found = code_line(s, c, name, b':');
-    let code = found.code;
-    let six = closed_number(s, found.next, 6, 0, MOST);
-    let next = six.next;
-    PairAt {
-        code,
-        number: six.value,
-        next,
-    }
 }

@@ -8,7 +8,6 @@ ghost use Rattle.texts.specs.Bytes.{bytes};
 ghost use Rattle.texts.specs.Leaf.{digits};
 ghost use Rattle.texts.specs.Layout.{key};
 ghost use Rattle.texts.specs.Code.{code, isCode};
-ghost use Rattle.texts.specs.Lines.{pairLine};
 ghost use Rattle.texts.specs.Inside.{Room, Wrote};
 
 // What writing to a lent buffer answers: the answer's number and the length of the text.
@@ -59,7 +58,7 @@ pub(crate) fn put_code_line(buf: &mut [u8], at: usize, name: &[u8], c: Code, clo
 }
 
 // A number and the end of its line.
-fn put_closed_number(buf: &mut [u8], at: usize, value: u32, width: usize) -> usize
+pub(crate) fn put_closed_number(buf: &mut [u8], at: usize, value: u32, width: usize) -> usize
     requires { ⌜ Room (now buf) at (digits width value ++ bytes "\n") ⌝ }
     ensures { λ r. ⌜ Wrote (now (buf .entry)) at (digits width value ++ bytes "\n") (now (buf .exit)) r ⌝ }
 {
@@ -80,13 +79,4 @@ pub(crate) fn put_number_line(
 {
     let named = put_word(buf, at, name);
     put_closed_number(buf, named, value, width)
-}
-
-// A key, a code, a colon and six digits.
-pub(crate) fn put_pair_line(buf: &mut [u8], at: usize, name: &[u8], c: Code, value: u32) -> usize
-    requires { ⌜ (isCode c ≡ true) × Room (now buf) at (pairLine (now name) .text (c, value)) ⌝ }
-    ensures { λ r. ⌜ Wrote (now (buf .entry)) at (pairLine (now (name .entry)) .text (c, value)) (now (buf .exit)) r ⌝ }
-{
-    let next = put_code_line(buf, at, name, c, b':');
-    put_closed_number(buf, next, value, 6)
 }

@@ -8,34 +8,28 @@ use crate::bounds::REGISTER_ROOM;
 use crate::bounds::SHOPS;
 use crate::code::Code;
 use crate::cursor::Cursor;
+use crate::entry::Entry;
+use crate::entry::entries_at;
+use crate::entry::entries_fit;
+use crate::entry::put_entries;
 use crate::lines::code_line;
 use crate::lines::number_line;
-use crate::lines::pair_line;
-use crate::pair::pair_passes;
 use crate::pen::Written;
 use crate::pen::put_code_line;
 use crate::pen::put_number_line;
-use crate::pen::put_pair_line;
 ghost use mathlib.Core.Path.{_≡_};
-ghost use mathlib.Core.Bool.{true, _&&_};
+ghost use mathlib.Core.Bool.{true};
 ghost use Prim.Native.Nat.{_+_, _≤_};
 ghost use lib.ListN.{length, take, drop};
 ghost use Rattle.texts.specs.Bounds.{mostShops};
-ghost use Rattle.texts.specs.Bytes.{allOf};
-ghost use Rattle.texts.specs.Register.{noListed, noRegister, zeroListed, shopLine, shopLines, registerLayout, place, twins, shopsOf, position, listed, ownRows, registerAnswer, registerRead, registerWritten, registerBuffer};
+ghost use Rattle.texts.specs.Register.{noRegister, registerLayout, place, twins, shopsOf, position, listed, ownRows, registerAnswer, registerRead, registerWritten, registerBuffer};
 ghost use Rattle.texts.specs.Answers.{answerOf};
 ghost use Rattle.texts.specs.Inside.{Reads, Room, Wrote};
 
-// A shop of the register, with its opening credit.
-pub struct Listed {
-    pub code: Code,
-    pub opening: u32,
-}
-
-// `count` shops, zeros in the places that are not used.
+// `count` shops, each with its opening credit, zeros in the places that are not used.
 pub struct Register {
     pub count: usize,
-    pub shops: [Listed; SHOPS],
+    pub shops: [Entry; SHOPS],
     pub own: Code,
 }
 
@@ -43,12 +37,6 @@ pub struct Register {
 pub struct RegisterRead {
     pub answer: u8,
     pub register: Register,
-}
-
-// Shops that were read, and the place after them.
-struct ShopsAt {
-    shops: [Listed; SHOPS],
-    next: Cursor,
 }
 
 // A register that was read, and the place after it.
@@ -59,15 +47,8 @@ struct RegisterAt {
 
 // ---- the shops
 
-fn no_listed() -> Listed
-    ensures { λ r. ⌜ r ≡ noListed ⌝ }
-{
-    let code = Code::none();
-    Listed { code, opening: 0 }
-}
-
 // The position of a code among the first n shops, looked for from a position on; past the last where it is not there.
-fn place_from(shops: [Listed; SHOPS], n: usize, from: usize, code: Code) -> usize
+fn place_from(shops: [Entry; SHOPS], n: usize, from: usize, code: Code) -> usize
     requires { ⌜ (n ≤ mostShops) × (from ≤ n) ⌝ }
     ensures { λ r. ⌜ r ≡ from + place (drop from (take n shops)) code ⌝ }
 {
@@ -84,7 +65,7 @@ fn place_from(shops: [Listed; SHOPS], n: usize, from: usize, code: Code) -> usiz
 }
 
 // Are there two equal codes among the first n shops.
-fn has_twins(shops: [Listed; SHOPS], n: usize) -> bool
+fn has_twins(shops: [Entry; SHOPS], n: usize) -> bool
     requires { ⌜ n ≤ mostShops ⌝ }
     ensures { λ r. ⌜ r ≡ twins (take n shops) ⌝ }
 {
@@ -99,31 +80,16 @@ fn has_twins(shops: [Listed; SHOPS], n: usize) -> bool
     false
 }
 
-// Could a text carry these shops: the first n are shops, and the other places are zero.
-fn shops_fit(shops: [Listed; SHOPS], n: usize) -> bool
-    ensures { λ r. ⌜ r ≡ allOf (shopLine .legal) (take n shops) && allOf zeroListed (drop n shops) ⌝ }
-{
-    let mut i = 0;
-    while i < SHOPS {
-        let shop = shops[i];
-        if !pair_passes(shop.code, shop.opening, i < n) {
-            return false;
-        }
-        i += 1;
-    }
-    true
-}
-
 impl Register {
     // The register of zeros.
     pub fn none() -> Self
         ensures { λ r. ⌜ r ≡ noRegister ⌝ }
     {
         let own = Code::none();
-        let listed = no_listed();
+        let none = Entry::none();
         Register {
             count: 0,
-            shops: [listed; SHOPS],
+            shops: [none; SHOPS],
             own,
         }
     }
@@ -169,7 +135,7 @@ impl Register {
             return false;
         }
         if own.fits() {
-            return shops_fit(shops, n);
+            return entries_fit(shops, n);
         }
         false
     }
@@ -203,36 +169,14 @@ impl Register {
 
 // ---- reading
 
-// The lines of n shops.
-fn shops_at(s: &[u8], c: Cursor, n: usize) -> ShopsAt
-    requires { ⌜ n ≤ mostShops ⌝ }
-    ensures { λ r. ⌜ Reads (shopLines n) (now (s .entry)) c (r .shops) (r .next) ⌝ }
-{
-    let none = no_listed();
-    let mut shops = [none; SHOPS];
-    let mut next = c;
-    let mut i = 0;
-    while i < n {
-        let line = pair_line(s, next, b"shop=");
-        let code = line.code;
-        shops[i] = Listed {
-            code,
-            opening: line.number,
-        };
-        next = line.next;
-        i += 1;
-    }
-    ShopsAt { shops, next }
-}
-
 // A register, line by line.
 fn register_at(s: &[u8], c: Cursor) -> RegisterAt
     ensures { λ r. ⌜ Reads registerLayout (now (s .entry)) c (r .register) (r .next) ⌝ }
 {
     let head = number_line(s, c, b"shops=", 2, 1, SHOPS as u32);
     let count = head.value as usize;
-    let list = shops_at(s, head.next, count);
-    let shops = list.shops;
+    let list = entries_at(s, head.next, b"shop=", count);
+    let shops = list.entries;
     let tail = code_line(s, list.next, b"own=", b'\n');
     let own = tail.code;
     let next = tail.next;
@@ -266,21 +210,6 @@ pub fn read_register(text: &[u8]) -> RegisterRead
 
 // ---- writing
 
-// The lines of n shops.
-fn put_shops(buf: &mut [u8], at: usize, shops: [Listed; SHOPS], n: usize) -> usize
-    requires { ⌜ (n ≤ mostShops) × (allOf (shopLine .legal) (take n shops) ≡ true) × Room (now buf) at (shopLines n .text shops) ⌝ }
-    ensures { λ r. ⌜ Wrote (now (buf .entry)) at (shopLines n .text shops) (now (buf .exit)) r ⌝ }
-{
-    let mut next = at;
-    let mut i = 0;
-    while i < n {
-        let shop = shops[i];
-        next = put_pair_line(buf, next, b"shop=", shop.code, shop.opening);
-        i += 1;
-    }
-    next
-}
-
 // A register, line by line.
 fn put_register(buf: &mut [u8], r: Register) -> usize
     requires { ⌜ (registerLayout .legal r ≡ true) × Room (now buf) 0 (registerLayout .text r) ⌝ }
@@ -290,7 +219,7 @@ fn put_register(buf: &mut [u8], r: Register) -> usize
     let shops = r.shops;
     let own = r.own;
     let head = put_number_line(buf, 0, b"shops=", count as u32, 2);
-    let list = put_shops(buf, head, shops, count);
+    let list = put_entries(buf, head, b"shop=", shops, count);
     put_code_line(buf, list, b"own=", own, b'\n')
 }
 

@@ -4,40 +4,33 @@ use crate::answers::OK;
 use crate::answers::ROOM;
 use crate::bounds::DEPS;
 use crate::bounds::MOST;
+use crate::bounds::SHOPS;
 use crate::bounds::SLIP_ROOM;
 use crate::code::Code;
 use crate::cursor::Cursor;
+use crate::entry::Entry;
+use crate::entry::entries_at;
+use crate::entry::entries_fit;
+use crate::entry::put_entries;
 use crate::lines::code_line;
 use crate::lines::number_line;
-use crate::lines::pair_line;
-use crate::pair::pair_passes;
 use crate::pen::Written;
 use crate::pen::put_code_line;
 use crate::pen::put_number_line;
-use crate::pen::put_pair_line;
 ghost use mathlib.Core.Path.{_≡_};
-ghost use mathlib.Core.Bool.{true, _&&_};
-ghost use Prim.Native.Nat.{_≤_};
-ghost use lib.ListN.{take, drop};
-ghost use Rattle.texts.specs.Bounds.{mostDeps};
-ghost use Rattle.texts.specs.Bytes.{allOf};
-ghost use Rattle.texts.specs.Slip.{noDep, noSlip, zeroDep, depLine, depLines, slipLayout, slipRead, slipWritten, slipBuffer};
+ghost use mathlib.Core.Bool.{true};
+ghost use Rattle.texts.specs.Slip.{noSlip, slipLayout, slipRead, slipWritten, slipBuffer};
 ghost use Rattle.texts.specs.Inside.{Reads, Room, Wrote};
 
-// A dependency: the first `number` slips of that shop.
-pub struct Dep {
-    pub code: Code,
-    pub number: u32,
-}
-
-// `count` dependencies, zeros in the places that are not used.
+// `count` dependencies, each the first `number` slips of a shop, zeros in the places that are not used.
+// The last place is never used: shops and dependencies have one type of list.
 pub struct Slip {
     pub payer: Code,
     pub number: u32,
     pub payee: Code,
     pub amount: u32,
     pub count: usize,
-    pub deps: [Dep; DEPS],
+    pub deps: [Entry; SHOPS],
 }
 
 // What reading a slip's text answers; refused: a slip of zeros.
@@ -46,38 +39,10 @@ pub struct SlipRead {
     pub slip: Slip,
 }
 
-// Dependencies that were read, and the place after them.
-struct DepsAt {
-    deps: [Dep; DEPS],
-    next: Cursor,
-}
-
 // A slip that was read, and the place after it.
 struct SlipAt {
     slip: Slip,
     next: Cursor,
-}
-
-fn no_dep() -> Dep
-    ensures { λ r. ⌜ r ≡ noDep ⌝ }
-{
-    let code = Code::none();
-    Dep { code, number: 0 }
-}
-
-// Could a text carry these dependencies: the first n are dependencies, and the other places are zero.
-fn deps_fit(deps: [Dep; DEPS], n: usize) -> bool
-    ensures { λ r. ⌜ r ≡ allOf (depLine .legal) (take n deps) && allOf zeroDep (drop n deps) ⌝ }
-{
-    let mut i = 0;
-    while i < DEPS {
-        let dep = deps[i];
-        if !pair_passes(dep.code, dep.number, i < n) {
-            return false;
-        }
-        i += 1;
-    }
-    true
 }
 
 impl Slip {
@@ -86,14 +51,14 @@ impl Slip {
         ensures { λ r. ⌜ r ≡ noSlip ⌝ }
     {
         let code = Code::none();
-        let dep = no_dep();
+        let none = Entry::none();
         Slip {
             payer: code,
             number: 0,
             payee: code,
             amount: 0,
             count: 0,
-            deps: [dep; DEPS],
+            deps: [none; SHOPS],
         }
     }
 
@@ -116,7 +81,7 @@ impl Slip {
         }
         if payer.fits() {
             if payee.fits() {
-                return deps_fit(deps, n);
+                return entries_fit(deps, n);
             }
         }
         false
@@ -124,28 +89,6 @@ impl Slip {
 }
 
 // ---- reading
-
-// The lines of n dependencies.
-fn deps_at(s: &[u8], c: Cursor, n: usize) -> DepsAt
-    requires { ⌜ n ≤ mostDeps ⌝ }
-    ensures { λ r. ⌜ Reads (depLines n) (now (s .entry)) c (r .deps) (r .next) ⌝ }
-{
-    let none = no_dep();
-    let mut deps = [none; DEPS];
-    let mut next = c;
-    let mut i = 0;
-    while i < n {
-        let line = pair_line(s, next, b"dep=");
-        let code = line.code;
-        deps[i] = Dep {
-            code,
-            number: line.number,
-        };
-        next = line.next;
-        i += 1;
-    }
-    DepsAt { deps, next }
-}
 
 // A slip, line by line.
 fn slip_at(s: &[u8], c: Cursor) -> SlipAt
@@ -159,8 +102,8 @@ fn slip_at(s: &[u8], c: Cursor) -> SlipAt
     let moved = number_line(s, paid.next, b"amount=", 6, 0, MOST);
     let head = number_line(s, moved.next, b"deps=", 2, 0, DEPS as u32);
     let count = head.value as usize;
-    let list = deps_at(s, head.next, count);
-    let deps = list.deps;
+    let list = entries_at(s, head.next, b"dep=", count);
+    let deps = list.entries;
     let next = list.next;
     let slip = Slip {
         payer,
@@ -192,21 +135,6 @@ pub fn read_slip(text: &[u8]) -> SlipRead
 
 // ---- writing
 
-// The lines of n dependencies.
-fn put_deps(buf: &mut [u8], at: usize, deps: [Dep; DEPS], n: usize) -> usize
-    requires { ⌜ (n ≤ mostDeps) × (allOf (depLine .legal) (take n deps) ≡ true) × Room (now buf) at (depLines n .text deps) ⌝ }
-    ensures { λ r. ⌜ Wrote (now (buf .entry)) at (depLines n .text deps) (now (buf .exit)) r ⌝ }
-{
-    let mut next = at;
-    let mut i = 0;
-    while i < n {
-        let dep = deps[i];
-        next = put_pair_line(buf, next, b"dep=", dep.code, dep.number);
-        i += 1;
-    }
-    next
-}
-
 // A slip, line by line.
 fn put_slip(buf: &mut [u8], s: Slip) -> usize
     requires { ⌜ (slipLayout .legal s ≡ true) × Room (now buf) 0 (slipLayout .text s) ⌝ }
@@ -221,7 +149,7 @@ fn put_slip(buf: &mut [u8], s: Slip) -> usize
     let paid = put_code_line(buf, numbered, b"payee=", payee, b'\n');
     let moved = put_number_line(buf, paid, b"amount=", s.amount, 6);
     let head = put_number_line(buf, moved, b"deps=", count as u32, 2);
-    put_deps(buf, head, deps, count)
+    put_entries(buf, head, b"dep=", deps, count)
 }
 
 // Writes a slip's text at the front of a lent buffer.

@@ -4,14 +4,12 @@ use crate::parts::part;
 use crate::parts::same;
 use crate::report::BUFFER;
 use crate::report::FILL;
-use crate::report::put_answer;
-use crate::report::put_written;
+use crate::report::put_answers;
 use crate::script::WORD;
 use texts::Code;
 use texts::Register;
 use texts::Slip;
 use texts::Written;
-use texts::answers::OK;
 use texts::bounds::CODE_DIGITS;
 use texts::payee_part;
 use texts::read_register;
@@ -116,32 +114,22 @@ fn write_slip_to(buffer: &mut [u8], room: usize, slip: Slip) -> Written
     write_slip(slip, &mut buffer[..room])
 }
 
-// What reading a register answered, and, where that is 0, what writing it into `room` bytes answers.
+// What reading a register answered, and what writing it into `room` bytes answers.
 fn put_register(page: &mut [u8], at: usize, room: usize, answer: u8, register: Register) -> usize
     requires { ⌜ room ≤ 512 ⌝ }
 {
-    let answered = put_answer(page, at, b"read=", answer);
-    let closed = put(page, answered, b"\n");
-    if answer != OK {
-        return closed;
-    }
     let mut buffer = [FILL; BUFFER];
     let written = write_register_to(&mut buffer, room, register);
-    put_written(page, closed, written.answer, written.count, &buffer)
+    put_answers(page, at, answer, written, &buffer)
 }
 
-// What reading a slip answered, and, where that is 0, what writing it into `room` bytes answers.
+// What reading a slip answered, and what writing it into `room` bytes answers.
 fn put_slip(page: &mut [u8], at: usize, room: usize, answer: u8, slip: Slip) -> usize
     requires { ⌜ room ≤ 512 ⌝ }
 {
-    let answered = put_answer(page, at, b"read=", answer);
-    let closed = put(page, answered, b"\n");
-    if answer != OK {
-        return closed;
-    }
     let mut buffer = [FILL; BUFFER];
     let written = write_slip_to(&mut buffer, room, slip);
-    put_written(page, closed, written.answer, written.count, &buffer)
+    put_answers(page, at, answer, written, &buffer)
 }
 
 // Reads a register and writes it.

@@ -3,6 +3,8 @@ use crate::page::put;
 use crate::page::put_three;
 use crate::page::put_two;
 use crate::parts::part;
+use texts::Written;
+use texts::answers::OK;
 use texts::why;
 
 // The bytes of the buffer that the calls lend a part of, and the byte that fills it before.
@@ -18,7 +20,7 @@ pub(crate) fn put_trial(page: &mut [u8], at: usize, trial: usize) -> usize {
 }
 
 // A key, an answer's number, and its name.
-pub(crate) fn put_answer(page: &mut [u8], at: usize, key: &[u8], answer: u8) -> usize {
+fn put_answer(page: &mut [u8], at: usize, key: &[u8], answer: u8) -> usize {
     let name = why(answer);
     let bytes = name.bytes;
     let len = name.len;
@@ -41,14 +43,9 @@ fn is_kept(buffer: &[u8], from: usize) -> bool {
 }
 
 // What writing answered, the text that it wrote, and whether the rest of the buffer was kept.
-pub(crate) fn put_written(
-    page: &mut [u8],
-    at: usize,
-    answer: u8,
-    count: usize,
-    buffer: &[u8; BUFFER],
-) -> usize {
-    let answered = put_answer(page, at, b"write=", answer);
+fn put_written(page: &mut [u8], at: usize, written: Written, buffer: &[u8; BUFFER]) -> usize {
+    let count = written.count;
+    let answered = put_answer(page, at, b"write=", written.answer);
     let keyed = put(page, answered, b" count=");
     let counted = put_three(page, keyed, count);
     let closed = put(page, counted, b"\n");
@@ -57,4 +54,20 @@ pub(crate) fn put_written(
         return put(page, text, b"rest=kept\n");
     }
     put(page, text, b"rest=lost\n")
+}
+
+// What reading answered, and, where that is 0, what writing the value answered.
+pub(crate) fn put_answers(
+    page: &mut [u8],
+    at: usize,
+    read: u8,
+    written: Written,
+    buffer: &[u8; BUFFER],
+) -> usize {
+    let answered = put_answer(page, at, b"read=", read);
+    let closed = put(page, answered, b"\n");
+    if read != OK {
+        return closed;
+    }
+    put_written(page, closed, written, buffer)
 }

@@ -32,7 +32,7 @@ returns-2 c =
 
 loop-holds : tie.Need-loop-holds Inv-loop μ-loop
 loop-holds c =
-    let l : length (c .before .before .args .t3 .deps) ≡ 15 = search needs in
+    let l : length (c .before .before .args .t3 .deps) ≡ 16 = search needs in
     left-none _ _ _ (omega arith)
 
 mul-if3 : tie.Need-mul-if3 Inv-loop μ-loop

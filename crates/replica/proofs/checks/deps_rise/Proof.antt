@@ -18,7 +18,7 @@ abbrev μ-loop : tie.MeasureT-loop
 
 loop-holds : tie.Need-loop-holds Inv-loop μ-loop
 loop-holds c =
-    let l : length (c .args .t3 .deps) ≡ 15 = search needs in
+    let l : length (c .args .t3 .deps) ≡ 16 = search needs in
     risen-none _ _ _ (omega arith)
 
 mul-at : tie.Need-mul-at Inv-loop μ-loop

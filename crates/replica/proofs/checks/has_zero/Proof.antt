@@ -25,7 +25,7 @@ returns-2 c = zero-amount _ (c .before .if1 .left) (c .if2 .taken)
 
 loop-holds : tie.Need-loop-holds Inv-loop μ-loop
 loop-holds c =
-    let l : length (c .before .before .args .t1 .deps) ≡ 15 = search (length-mapped, needs) in
+    let l : length (c .before .before .args .t1 .deps) ≡ 16 = search (length-mapped, needs) in
     left-none _ _ _ (omega arith)
 
 mul-dep : tie.Need-mul-dep Inv-loop μ-loop

@@ -8,7 +8,7 @@ use Rattle.replica.proofs.checks.places_of.Statement.{statement}
 use Rattle.replica.proofs.checks.places_of.Tie as tie
 
 abbrev Inv-loop : tie.InvT-loop
-Inv-loop register slip payer payee n deps₀ i₀ deps i = Filled (λ d. position register (d .code)) 0 15 (slip .count) (slip .deps) deps i
+Inv-loop register slip payer payee n deps₀ i₀ deps i = Filled (λ d. position register (d .code)) 0 16 (slip .count) (slip .deps) deps i
 
 abbrev μ-loop : tie.MeasureT-loop
 μ-loop register slip payer payee n deps₀ i₀ deps i = slip .count - i
@@ -20,7 +20,7 @@ position-requires-2 : tie.Need-position-requires-2 Inv-loop μ-loop
 position-requires-2 c κs = search needs
 
 loop-holds : tie.Need-loop-holds Inv-loop μ-loop
-loop-holds c = filled-none _ 0 15 _ _ (search needs) (search (length-mapped, needs))
+loop-holds c = filled-none _ 0 16 _ _ (search needs) (search (length-mapped, needs))
 
 mul-dep : tie.Need-mul-dep Inv-loop μ-loop
 mul-dep c = search needs

@@ -35,13 +35,13 @@ element-copy-out-listed : tie.Need-element-copy-out-listed Inv-loop μ-loop
 element-copy-out-listed c = search needs
 
 mul-t20 : tie.Need-mul-t20 Inv-loop μ-loop
-mul-t20 c = let room : c .before .before .before .before .loop .count < 15 = search (marked-room, needs) in omega arith
+mul-t20 c = let room : c .before .before .before .before .loop .count < 16 = search (marked-room, needs) in omega arith
 
 element-set-from-slip : tie.Need-element-set-from-slip Inv-loop μ-loop
 element-set-from-slip c = search (marked-room, needs)
 
 add-count : tie.Need-add-count Inv-loop μ-loop
-add-count c = let room : c .before .before .before .before .loop .count < 15 = search (marked-room, needs) in omega arith
+add-count c = let room : c .before .before .before .before .loop .count < 16 = search (marked-room, needs) in omega arith
 
 add-i : tie.Need-add-i Inv-loop μ-loop
 add-i c = search needs

@@ -3,19 +3,19 @@ use Prim.Native.Nat.{_-_}
 use native.Mathlib.Omega.{arith}
 use borrow.Author.Needs.{needs}
 use Rattle.replica.specs.Record.{noShop}
-use Rattle.replica.specs.Open.{opening}
+use Rattle.replica.specs.Open.{firstDay}
 use Rattle.replica.proofs.Checked.{Filled, filled-none, filled-all, openings-more}
 use Rattle.replica.proofs.open.openings.Statement.{statement}
 use Rattle.replica.proofs.open.openings.Tie as tie
 
 abbrev Inv-loop : tie.InvT-loop
-Inv-loop listed shops₀ i₀ shops i = Filled opening noShop 16 16 listed shops i
+Inv-loop listed shops₀ i₀ shops i = Filled firstDay noShop 16 16 listed shops i
 
 abbrev μ-loop : tie.MeasureT-loop
 μ-loop listed shops₀ i₀ shops i = 16 - i
 
 loop-holds : tie.Need-loop-holds Inv-loop μ-loop
-loop-holds c = filled-none opening noShop 16 16 _ (omega arith) (search needs)
+loop-holds c = filled-none firstDay noShop 16 16 _ (omega arith) (search needs)
 
 mul-shops : tie.Need-mul-shops Inv-loop μ-loop
 mul-shops c = search needs

@@ -3,15 +3,15 @@ use mathlib.Core.List.{[]}
 use Prim.Native.Nat.{_-_, _≤_}
 use native.Mathlib.Omega.{arith}
 use borrow.Author.Needs.{needs}
-use Rattle.texts.specs.declared.register.Listed.{Listed}
+use Rattle.texts.specs.declared.entry.Entry.{Entry}
 use Rattle.texts.proofs.Legal.{register-fits}
 use Rattle.texts.proofs.Payees.{Started, started-none, started-more, started-done, shop-few}
 use Rattle.texts.proofs.payee.shop_start.Statement.{statement}
 use Rattle.texts.proofs.payee.shop_start.Tie as tie
 
 -- a place past the end, as the checker has it
-abbrev blank : Listed
-blank = record { code = record { digits = []; len = 0 }; opening = 0 }
+abbrev blank : Entry
+blank = record { code = record { digits = []; len = 0 }; number = 0 }
 
 abbrev Inv-loop : tie.InvT-loop
 Inv-loop position shops at₀ i₀ at i = (i ≤ position) × (position ≤ 16) × Started shops at i

@@ -19,10 +19,13 @@ put-number-line-requires : tie.Need-put-number-line-requires
 unfolding registerLayout
 put-number-line-requires c κs = room-front _ (room-front _ (c .before .before .before .before .before .pre .1))
 
-put-shops-requires : tie.Need-put-shops-requires
+slice-aggregate-put-entries : tie.Need-slice-aggregate-put-entries
+slice-aggregate-put-entries c = search needs
+
+put-entries-requires : tie.Need-put-entries-requires
 unfolding registerLayout
-put-shops-requires c κs =
-    let head = c .before .before .before in
+put-entries-requires c κs =
+    let head = c .before .before .before .before in
     let start = head .before .before .before .before .before .before in
     let fits = register-fits (start .args .r) (start .pre .0) in
     (fits .most, fits .used, room-back (room-front _ (start .pre .1)) (head .put-number-line .ensures))
@@ -34,10 +37,10 @@ put-code-line-requires : tie.Need-put-code-line-requires
 unfolding registerLayout
 put-code-line-requires c κs =
     let list = c .before .before .before .before in
-    let head = list .before .before .before .before in
+    let head = list .before .before .before .before .before in
     let start = head .before .before .before .before .before .before in (
       register-fits (start .args .r) (start .pre .0) .ownCode,
-      room-back (start .pre .1) (wrote-then (head .put-number-line .ensures) (list .put-shops .ensures)),
+      room-back (start .pre .1) (wrote-then (head .put-number-line .ensures) (list .put-entries .ensures)),
     )
 
 same-length : tie.Need-same-length
@@ -48,8 +51,8 @@ unfolding registerLayout
 returns c =
     let own = c .before .before in
     let list = own .before .before .before .before .before in
-    let head = list .before .before .before .before in
-    wrote-then (wrote-then (head .put-number-line .ensures) (list .put-shops .ensures)) (own .put-code-line .ensures)
+    let head = list .before .before .before .before .before in
+    wrote-then (wrote-then (head .put-number-line .ensures) (list .put-entries .ensures)) (own .put-code-line .ensures)
 
 pub put-register-spec : {M : Type 1} → statement M
 put-register-spec =
@@ -58,7 +61,8 @@ put-register-spec =
     slice-aggregate-put-number-line
     cast-put-number-line
     put-number-line-requires
-    put-shops-requires
+    slice-aggregate-put-entries
+    put-entries-requires
     slice-aggregate-put-code-line
     put-code-line-requires
     same-length

@@ -16,8 +16,11 @@ number-line-requires c κs = search needs
 cast-count : tie.Need-cast-count
 cast-count c = search needs
 
-shops-at-requires : tie.Need-shops-at-requires
-shops-at-requires c κs = search needs
+slice-aggregate-entries-at : tie.Need-slice-aggregate-entries-at
+slice-aggregate-entries-at c = search needs
+
+entries-at-requires : tie.Need-entries-at-requires
+entries-at-requires c κs = search needs
 
 slice-aggregate-code-line : tie.Need-slice-aggregate-code-line
 slice-aggregate-code-line c = search needs
@@ -36,7 +39,8 @@ register-at-spec =
     cast-number-line
     number-line-requires
     cast-count
-    shops-at-requires
+    slice-aggregate-entries-at
+    entries-at-requires
     slice-aggregate-code-line
     code-line-requires
     returns)

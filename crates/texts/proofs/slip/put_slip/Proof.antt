@@ -102,12 +102,15 @@ cast-put-number-line c =
 put-number-line-requires-3 : tie.Need-put-number-line-requires-3
 put-number-line-requires-3 c κs = room-front _ (room-4 (c .before .before .before .before))
 
-put-deps-requires : tie.Need-put-deps-requires
-put-deps-requires c κs =
-    let at = c .before .before .before in
+slice-aggregate-put-entries : tie.Need-slice-aggregate-put-entries
+slice-aggregate-put-entries c = search needs
+
+put-entries-requires : tie.Need-put-entries-requires
+put-entries-requires c κs =
+    let at = c .before .before .before .before in
     let start = start-5 at in
     let legal = slip-legal (start .args .s) (start .pre .0) in
-    (legal .count, legal .used, room-5 at)
+    (omega (arith, legal .count), legal .used, room-5 at)
 
 same-length : tie.Need-same-length
 same-length c = search needs
@@ -116,7 +119,7 @@ returns : tie.Need-returns
 unfolding slipLayout
 returns c =
     let deps = c .before .before in
-    let count = deps .before .before .before .before in
+    let count = deps .before .before .before .before .before in
     let amount = count .before .before .before .before .before in
     let payee = amount .before .before .before .before .before in
     let number = payee .before .before .before .before .before in
@@ -125,7 +128,7 @@ returns c =
     (wrote-then (number .put-number-line .ensures)
     (wrote-then (payee .put-code-line2 .ensures)
     (wrote-then (amount .put-number-line2 .ensures)
-    (wrote-then (count .put-number-line3 .ensures) (deps .put-deps .ensures)))))
+    (wrote-then (count .put-number-line3 .ensures) (deps .put-entries .ensures)))))
 
 pub put-slip-spec : {M : Type 1} → statement M
 put-slip-spec =
@@ -142,6 +145,7 @@ put-slip-spec =
     slice-aggregate-put-number-line-3
     cast-put-number-line
     put-number-line-requires-3
-    put-deps-requires
+    slice-aggregate-put-entries
+    put-entries-requires
     same-length
     returns)

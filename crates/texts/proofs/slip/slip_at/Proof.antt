@@ -40,18 +40,21 @@ number-line-requires-3 c κs = search needs
 cast-count : tie.Need-cast-count
 cast-count c = search needs
 
-deps-at-requires : tie.Need-deps-at-requires
-deps-at-requires c κs = search needs
+slice-aggregate-entries-at : tie.Need-slice-aggregate-entries-at
+slice-aggregate-entries-at c = search needs
+
+entries-at-requires : tie.Need-entries-at-requires
+entries-at-requires c κs = search needs
 
 returns : tie.Need-returns
 returns c =
     let list = c .before .before in
-    let head = list .before .before in
+    let head = list .before .before .before in
     let moved = head .before .before in
     let paid = moved .before .before .before in
     let numbered = paid .before .before in
     let paying = numbered .before .before .before in
-    slip-lines (paying .code-line .ensures) (numbered .number-line .ensures .1) (paid .code-line2 .ensures) (moved .number-line2 .ensures .1) (head .number-line3 .ensures .1) (list .deps-at .ensures)
+    slip-lines (paying .code-line .ensures) (numbered .number-line .ensures .1) (paid .code-line2 .ensures) (moved .number-line2 .ensures .1) (head .number-line3 .ensures .1) (list .entries-at .ensures)
 
 pub slip-at-spec : {M : Type 1} → statement M
 slip-at-spec =
@@ -69,5 +72,6 @@ slip-at-spec =
     cast-number-line
     number-line-requires-3
     cast-count
-    deps-at-requires
+    slice-aggregate-entries-at
+    entries-at-requires
     returns)

@@ -12,7 +12,7 @@ use Rattle.texts.proofs.code.Code.fits.Statement.{statement}
 use Rattle.texts.proofs.code.Code.fits.Tie as tie
 
 abbrev Inv-loop : tie.InvT-loop
-Inv-loop self n i₀ i = Passed (λ b. b) digit (eqb 0) n (self .digits) i
+Inv-loop self n i₀ i = Passed digit (eqb 0) n (self .digits) i
 
 abbrev μ-loop : tie.MeasureT-loop
 μ-loop self n i₀ i = 8 - i
@@ -24,7 +24,7 @@ returns-2 : tie.Need-returns-2 Inv-loop μ-loop
 returns-2 c = code-many (c .before .before .args .t1) (search needs) (c .if2 .taken)
 
 loop-holds : tie.Need-loop-holds Inv-loop μ-loop
-loop-holds c = passed-none (λ b. b) digit (eqb 0) _ _
+loop-holds c = passed-none digit (eqb 0) _ _
 
 element-copy-out-b : tie.Need-element-copy-out-b Inv-loop μ-loop
 element-copy-out-b c = search needs

@@ -15,17 +15,17 @@ returns-2 c = register-not _ (λ ok. omega arith)
 fits-requires : tie.Need-fits-requires
 fits-requires c κs = search needs
 
-shops-fit-requires : tie.Need-shops-fit-requires
-shops-fit-requires c κs = search needs
+entries-fit-requires : tie.Need-entries-fit-requires
+entries-fit-requires c κs = search needs
 
 returns-3 : tie.Need-returns-3
 returns-3 c =
     let own = c .before in
-    register-rest (c .before .before .before .before .before .before .before .args .self) (search (length-mapped, needs)) (search needs) (search needs) (sym (own .before .fits2 .ensures) ∙ own .if3 .taken) _ (c .shops-fit .ensures)
+    register-rest (c .before .before .before .before .before .before .before .args .self) (search (length-mapped, needs)) (search needs) (search needs) (sym (own .before .fits2 .ensures) ∙ own .if3 .taken) _ (c .entries-fit .ensures)
 
 returns-4 : tie.Need-returns-4
 returns-4 c = register-not _ (λ ok. clash _ _ (c .before .fits2 .ensures) (c .if3 .left) (ok .ownCode))
 
 pub fits-spec : {M : Type 1} → statement M
 fits-spec =
-    tie.close (tie.spec returns returns-2 fits-requires shops-fit-requires returns-3 returns-4)
+    tie.close (tie.spec returns returns-2 fits-requires entries-fit-requires returns-3 returns-4)

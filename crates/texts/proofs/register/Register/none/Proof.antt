@@ -7,11 +7,11 @@ use Rattle.texts.proofs.register.Register.none.Tie as tie
 none-requires : tie.Need-none-requires
 none-requires c κs = search needs
 
-no-listed-requires : tie.Need-no-listed-requires
-no-listed-requires c κs = search needs
+none-requires-2 : tie.Need-none-requires-2
+none-requires-2 c κs = search needs
 
 returns : tie.Need-returns
-returns c = λ i. record { count = 0; shops = replicate 16 (c .no-listed .ensures i); own = c .before .none .ensures i }
+returns c = λ i. record { count = 0; shops = replicate 16 (c .none2 .ensures i); own = c .before .none .ensures i }
 
 pub none-spec : {M : Type 1} → statement M
-none-spec = tie.close (tie.spec none-requires no-listed-requires returns)
+none-spec = tie.close (tie.spec none-requires none-requires-2 returns)

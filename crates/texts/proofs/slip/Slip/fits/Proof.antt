@@ -9,10 +9,10 @@ use Rattle.texts.proofs.slip.Slip.fits.Tie as tie
 use Rattle.texts.proofs.slip.Slip.fits.Reads as reads
 use Rattle.texts.proofs.slip.Slip.fits.Lts as lts
 use Rattle.texts.proofs.code.Code.fits.Reads as fits-reads
-use Rattle.texts.proofs.slip.deps_fit.Reads as deps-fit-reads
+use Rattle.texts.proofs.entry.entries_fit.Reads as entries-fit-reads
 
 -- the slip has as many places for dependencies as its type says
-places : (c : lts.Start (fits-reads.Asked, fits-reads.Learnt, deps-fit-reads.Asked, deps-fit-reads.Learnt) reads.Pre reads.Post) → length (c .args .self .deps) ≡ 15
+places : (c : lts.Start (fits-reads.Asked, fits-reads.Learnt, entries-fit-reads.Asked, entries-fit-reads.Learnt) reads.Pre reads.Post) → length (c .args .self .deps) ≡ 16
 places c = search (length-mapped, needs)
 
 returns : tie.Need-returns
@@ -30,8 +30,8 @@ fits-requires c κs = search needs
 fits-requires-2 : tie.Need-fits-requires-2
 fits-requires-2 c κs = search needs
 
-deps-fit-requires : tie.Need-deps-fit-requires
-deps-fit-requires c κs = search needs
+entries-fit-requires : tie.Need-entries-fit-requires
+entries-fit-requires c κs = search needs
 
 returns-4 : tie.Need-returns-4
 returns-4 c =
@@ -39,7 +39,7 @@ returns-4 c =
     let payer = c .before .before .before in
     let payee = c .before in
     slip-rest (start .args .self) (places start) (sym (payer .before .fits2 .ensures) ∙ payer .if4 .taken) (sym (payee .before .fits3 .ensures) ∙ payee .if5 .taken)
-    (search needs) (search needs) (search needs) _ (c .deps-fit .ensures)
+    (search needs) (search needs) (search needs) _ (c .entries-fit .ensures)
 
 returns-5 : tie.Need-returns-5
 returns-5 c = slip-not _ (λ ok. clash _ _ (c .before .fits3 .ensures) (c .if5 .left) (ok .payee))
@@ -56,7 +56,7 @@ fits-spec =
     returns-3
     fits-requires
     fits-requires-2
-    deps-fit-requires
+    entries-fit-requires
     returns-4
     returns-5
     returns-6)

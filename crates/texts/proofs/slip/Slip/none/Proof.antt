@@ -7,8 +7,8 @@ use Rattle.texts.proofs.slip.Slip.none.Tie as tie
 none-requires : tie.Need-none-requires
 none-requires c κs = search needs
 
-no-dep-requires : tie.Need-no-dep-requires
-no-dep-requires c κs = search needs
+none-requires-2 : tie.Need-none-requires-2
+none-requires-2 c κs = search needs
 
 returns : tie.Need-returns
 returns c = λ i. record {
@@ -17,8 +17,8 @@ returns c = λ i. record {
   payee = c .before .none .ensures i;
   amount = 0;
   count = 0;
-  deps = replicate 15 (c .no-dep .ensures i);
+  deps = replicate 16 (c .none2 .ensures i);
 }
 
 pub none-spec : {M : Type 1} → statement M
-none-spec = tie.close (tie.spec none-requires no-dep-requires returns)
+none-spec = tie.close (tie.spec none-requires none-requires-2 returns)

@@ -1,8 +1,8 @@
 -- The key with its code and then the six digits: the two writes are one.
 use borrow.Author.Needs.{needs}
 use Rattle.texts.proofs.Writing.{room-front, room-back, wrote-then}
-use Rattle.texts.proofs.pen.put_pair_line.Statement.{statement}
-use Rattle.texts.proofs.pen.put_pair_line.Tie as tie
+use Rattle.texts.proofs.entry.put_entry.Statement.{statement}
+use Rattle.texts.proofs.entry.put_entry.Tie as tie
 
 put-code-line-requires : tie.Need-put-code-line-requires
 put-code-line-requires c κs = search (room-front, needs)
@@ -16,6 +16,6 @@ same-length c = search needs
 returns : tie.Need-returns
 returns c = search (wrote-then, needs)
 
-pub put-pair-line-spec : {M : Type 1} → statement M
-put-pair-line-spec =
+pub put-entry-spec : {M : Type 1} → statement M
+put-entry-spec =
     tie.close (tie.spec put-code-line-requires put-closed-number-requires same-length returns)
