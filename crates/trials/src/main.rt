@@ -1,13 +1,17 @@
 // Makes the calls of a script that comes in on standard input, and prints what each answers.
+mod called;
 mod calls;
 mod page;
 mod parts;
+mod poke;
+mod replica_calls;
 mod report;
 mod script;
+mod state;
+mod text_calls;
+mod words;
 
 use calls::call;
-use calls::is_known;
-use calls::kind_of;
 use calls::raw_bytes;
 use libc::STDIN_FILENO;
 use libc::STDOUT_FILENO;
@@ -15,35 +19,43 @@ use page::PAGE_FULL;
 use page::PAGE_ROOM;
 use page::put;
 use parts::part;
+use replica::Replica;
 use report::BUFFER;
 use report::put_trial;
 use script::HEADER;
-use script::WORD;
 use script::call_bytes;
 use script::read_header;
+use words::WORD;
+use words::word_of;
 ghost use Prim.Native.Nat.{_≤_};
 ghost use lib.ListN.{length};
 
 // The bytes of a script that are read; what follows them is not.
-const SCRIPT_ROOM: usize = 131072;
+const SCRIPT_ROOM: usize = 262144;
 // The calls that a script may have.
-const TRIALS: usize = 999;
+const TRIALS: usize = 9999;
 
-// A call that was made: the bytes of the script that it took, 0 where they are no call, and the page's place after its lines.
+// A call that was made: the bytes of the script that it took, 0 where they are no call, the page's place after its lines, and the
+// current record after it.
 struct Made {
     taken: usize,
     at: usize,
+    record: Replica,
 }
 
 // Makes the first call of what is left of a script.
-fn make(page: &mut [u8], at: usize, trial: usize, left: &[u8]) -> Made
+fn make(page: &mut [u8], at: usize, trial: usize, left: &[u8], record: Replica) -> Made
     ensures { λ r. ⌜ r .taken ≤ length (now (left .entry)) ⌝ }
 {
-    let none = Made { taken: 0, at };
+    let none = Made {
+        taken: 0,
+        at,
+        record,
+    };
     let head = read_header(left);
     let room = head.room;
-    let kind = kind_of(part(left, 0, WORD));
-    let size = raw_bytes(kind, room, head.text);
+    let word = word_of(part(left, 0, WORD));
+    let size = raw_bytes(word, room, head.text);
     let taken = call_bytes(left, size);
     if TRIALS < trial {
         return none;
@@ -55,10 +67,15 @@ fn make(page: &mut [u8], at: usize, trial: usize, left: &[u8]) -> Made
         return none;
     }
     if head.ok {
-        if is_known(kind) {
-            let named = put_trial(page, at, trial);
-            let next = call(page, named, kind, room, part(left, HEADER, size));
-            return Made { taken, at: next };
+        let named = put_trial(page, at, trial);
+        let called = call(page, named, word, room, part(left, HEADER, size), record);
+        if called.ok {
+            let after = called.record;
+            return Made {
+                taken,
+                at: called.at,
+                record: after,
+            };
         }
     }
     none
@@ -77,14 +94,18 @@ fn print_bad(page: &mut [u8], at: usize) {
 
 // Makes the calls one after the other, until the script ends or is bad, or printing fails.
 fn run(script: &[u8], page: &mut [u8]) {
+    // A text that is no register leaves the record of zeros.
+    let none = Replica::open(b"");
+    let mut record = none.replica;
     let mut from = 0;
     let mut trial = 0;
     let mut at = 0;
     while from < script.len() {
         trial += 1;
-        let made = make(page, at, trial, &script[from..]);
+        let made = make(page, at, trial, &script[from..], record);
         let taken = made.taken;
         at = made.at;
+        record = made.record;
         if taken == 0 {
             print_bad(page, at);
             return;

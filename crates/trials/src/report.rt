@@ -1,10 +1,9 @@
 // The lines that say what a call answered.
 use crate::page::put;
-use crate::page::put_three;
-use crate::page::put_two;
+use crate::page::put_field;
+use crate::page::put_number;
 use crate::parts::part;
-use texts::Written;
-use texts::answers::OK;
+use replica::Outcome;
 use texts::why;
 
 // The bytes of the buffer that the calls lend a part of, and the byte that fills it before.
@@ -14,20 +13,26 @@ pub(crate) const FILL: u8 = b'#';
 
 // The running number of a call.
 pub(crate) fn put_trial(page: &mut [u8], at: usize, trial: usize) -> usize {
-    let keyed = put(page, at, b"trial=");
-    let numbered = put_three(page, keyed, trial);
+    let numbered = put_field(page, at, b"trial=", trial, 4);
     put(page, numbered, b"\n")
 }
 
 // A key, an answer's number, and its name.
-fn put_answer(page: &mut [u8], at: usize, key: &[u8], answer: u8) -> usize {
+pub(crate) fn put_answer(page: &mut [u8], at: usize, key: &[u8], answer: u8) -> usize {
     let name = why(answer);
     let bytes = name.bytes;
     let len = name.len;
-    let keyed = put(page, at, key);
-    let numbered = put_two(page, keyed, answer as usize);
+    let numbered = put_field(page, at, key, answer as usize, 2);
     let asked = put(page, numbered, b" why=");
     put(page, asked, part(&bytes, 0, len))
+}
+
+// What a call on the replica answered.
+pub(crate) fn put_outcome(page: &mut [u8], at: usize, outcome: Outcome) -> usize {
+    let answered = put_answer(page, at, b"answer=", outcome.answer);
+    let counted = put_field(page, answered, b" count=", outcome.count, 3);
+    let weighed = put_field(page, counted, b" balance=", outcome.balance as usize, 8);
+    put(page, weighed, b"\n")
 }
 
 // Is the buffer from a place on as it was filled.
@@ -42,32 +47,40 @@ fn is_kept(buffer: &[u8], from: usize) -> bool {
     true
 }
 
-// What writing answered, the text that it wrote, and whether the rest of the buffer was kept.
-fn put_written(page: &mut [u8], at: usize, written: Written, buffer: &[u8; BUFFER]) -> usize {
-    let count = written.count;
-    let answered = put_answer(page, at, b"write=", written.answer);
-    let keyed = put(page, answered, b" count=");
-    let counted = put_three(page, keyed, count);
-    let closed = put(page, counted, b"\n");
-    let text = put(page, closed, part(buffer, 0, count));
-    if is_kept(buffer, count) {
-        return put(page, text, b"rest=kept\n");
+// Was the buffer from a place on kept.
+pub(crate) fn put_rest(page: &mut [u8], at: usize, buffer: &[u8], from: usize) -> usize {
+    if is_kept(buffer, from) {
+        return put(page, at, b"rest=kept\n");
     }
-    put(page, text, b"rest=lost\n")
+    put(page, at, b"rest=lost\n")
 }
 
-// What reading answered, and, where that is 0, what writing the value answered.
-pub(crate) fn put_answers(
-    page: &mut [u8],
-    at: usize,
-    read: u8,
-    written: Written,
-    buffer: &[u8; BUFFER],
-) -> usize {
-    let answered = put_answer(page, at, b"read=", read);
-    let closed = put(page, answered, b"\n");
-    if read != OK {
-        return closed;
+// The text of `count` bytes at the buffer's front, and whether the rest was kept.
+pub(crate) fn put_text(page: &mut [u8], at: usize, buffer: &[u8; BUFFER], count: usize) -> usize {
+    let text = put(page, at, part(buffer, 0, count));
+    put_rest(page, text, buffer, count)
+}
+
+// A byte as a number.
+fn wide(byte: u8) -> usize {
+    byte as usize
+}
+
+// Each byte of a list with two digits.
+fn put_bytes(page: &mut [u8], at: usize, list: &[u8]) -> usize {
+    let mut next = at;
+    let mut i = 0;
+    while i < list.len() {
+        next = put_number(page, next, wide(list[i]), 2);
+        i += 1;
     }
-    put_written(page, closed, written, buffer)
+    next
+}
+
+// The positions in the first `count` bytes of a list, and whether the rest was kept.
+pub(crate) fn put_list(page: &mut [u8], at: usize, list: &[u8; BUFFER], count: usize) -> usize {
+    let keyed = put(page, at, b"list=");
+    let listed = put_bytes(page, keyed, part(list, 0, count));
+    let closed = put(page, listed, b"\n");
+    put_rest(page, closed, list, count)
 }

@@ -5,9 +5,7 @@ use crate::parts::same;
 ghost use Prim.Native.Nat.{_≤_};
 ghost use lib.ListN.{length};
 
-// A header is `WORD.... room=NNNN text=NNNN` and a byte 10: the bytes of a word, of a key, of a number and of all of it.
-pub(crate) const WORD: usize = 8;
-
+// A header is `WORD.... room=NNNN text=NNNN` and a byte 10: the bytes of a key, of a number and of all of it.
 const KEY: usize = 6;
 
 const DIGITS: usize = 4;
@@ -23,10 +21,16 @@ const TEXT_KEY: usize = 18;
 const TEXT: usize = 24;
 
 const CLOSING: usize = 28;
-// The largest number that a header can carry, and what stands for a digit that is none.
+// The largest number that a header can carry.
 const MOST: usize = 9999;
+// The largest number that a script can carry, and what stands for one that is none.
+pub(crate) const MOST_NUMBER: usize = 9999999999;
 
-const NO_DIGIT: usize = 10000;
+pub(crate) const NO_NUMBER: usize = 10000000000;
+// A number above it has no room for a digit more, and what stands for a digit that is none.
+const MOST_FRONT: usize = 999999999;
+
+const NO_DIGIT: usize = 10;
 
 // The two numbers of a header; `ok` is false where the bytes are no header.
 pub(crate) struct Header {
@@ -35,26 +39,32 @@ pub(crate) struct Header {
     pub(crate) ok: bool,
 }
 
-// The digit at a place.
-fn digit(s: &[u8], at: usize) -> usize
-    ensures { λ r. ⌜ r ≤ 10000 ⌝ }
-{
-    if at < s.len() {
-        let b = s[at];
-        if b'0' <= b {
-            if b <= b'9' {
-                return (b - b'0') as usize;
-            }
+// The digit that a byte says.
+fn digit(b: u8) -> usize {
+    if b'0' <= b {
+        if b <= b'9' {
+            return (b - b'0') as usize;
         }
     }
     NO_DIGIT
 }
 
-// The number of four digits; above MOST where one of them is none.
-fn number(s: &[u8]) -> usize
-    ensures { λ r. ⌜ r ≤ 11110000 ⌝ }
-{
-    1000 * digit(s, 0) + 100 * digit(s, 1) + 10 * digit(s, 2) + digit(s, 3)
+// The number that the bytes say. No bytes say 0: how many there are is for the caller to see.
+pub(crate) fn number(s: &[u8]) -> usize {
+    let mut value = 0;
+    let mut i = 0;
+    while i < s.len() {
+        let last = digit(s[i]);
+        if NO_DIGIT <= last {
+            return NO_NUMBER;
+        }
+        if MOST_FRONT < value {
+            return NO_NUMBER;
+        }
+        value = 10 * value + last;
+        i += 1;
+    }
+    value
 }
 
 // Has the line the keys and the end of a header.

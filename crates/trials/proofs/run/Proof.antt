@@ -9,10 +9,16 @@ use Rattle.trials.proofs.run.Statement.{statement}
 use Rattle.trials.proofs.run.Tie as tie
 
 abbrev Inv-loop : tie.InvT-loop
-Inv-loop script page₀ from₀ trial₀ at₀ page from trial at = (from ≤ length script) × (trial ≤ from) × (length page ≡ length page₀)
+Inv-loop script page₀ record₀ from₀ trial₀ at₀ page «record» from trial at = (from ≤ length script) × (trial ≤ from) × (length page ≡ length page₀)
 
 abbrev μ-loop : tie.MeasureT-loop
-μ-loop script page₀ from₀ trial₀ at₀ page from trial at = length script - from
+μ-loop script page₀ record₀ from₀ trial₀ at₀ page «record» from trial at = length script - from
+
+slice-aggregate-open : tie.Need-slice-aggregate-open Inv-loop μ-loop
+slice-aggregate-open c = search needs
+
+open-requires : tie.Need-open-requires Inv-loop μ-loop
+open-requires c κs = search needs
 
 loop-holds : tie.Need-loop-holds Inv-loop μ-loop
 loop-holds c = search needs
@@ -74,6 +80,8 @@ run-spec =
     (tie.spec
     Inv-loop
     μ-loop
+    slice-aggregate-open
+    open-requires
     loop-holds
     add-trial
     sub-make

@@ -1,15 +1,15 @@
--- `trials::calls::kind_of` is safe and ends. The measure is what is left of the table.
+-- `trials::words::word_of` is safe and ends. The measure is what is left of the table.
 -- Assumes nothing.
 use Prim.Native.Nat.{_≤_, _-_}
 use borrow.Author.Needs.{needs}
-use Rattle.trials.proofs.calls.kind_of.Statement.{statement}
-use Rattle.trials.proofs.calls.kind_of.Tie as tie
+use Rattle.trials.proofs.words.word_of.Statement.{statement}
+use Rattle.trials.proofs.words.word_of.Tie as tie
 
 abbrev Inv-loop : tie.InvT-loop
-Inv-loop word i₀ i = i ≤ 5
+Inv-loop bytes i₀ i = i ≤ 27
 
 abbrev μ-loop : tie.MeasureT-loop
-μ-loop word i₀ i = 5 - i
+μ-loop bytes i₀ i = 27 - i
 
 loop-holds : tie.Need-loop-holds Inv-loop μ-loop
 loop-holds c = search needs
@@ -38,8 +38,8 @@ loop-again c = search needs
 returns-2 : tie.Need-returns-2 Inv-loop μ-loop
 returns-2 c = search needs
 
-pub kind-of-spec : {M : Type 1} → statement M
-kind-of-spec =
+pub word-of-spec : {M : Type 1} → statement M
+word-of-spec =
     tie.close
     (tie.spec
     Inv-loop

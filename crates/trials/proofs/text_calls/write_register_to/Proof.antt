@@ -1,10 +1,10 @@
--- `trials::calls::write_register_to` is safe and ends. The part that it lends is `room` bytes long, as the buffer has so many.
+-- `trials::text_calls::write_register_to` is safe and ends. The part that it lends is `room` bytes long, as the buffer has so many.
 -- Assumes nothing.
 use mathlib.Core.Path.{sym}
 use borrow.Author.Needs.{needs}
 use lib.Seq.{length-take-le}
-use Rattle.trials.proofs.calls.write_register_to.Statement.{statement}
-use Rattle.trials.proofs.calls.write_register_to.Tie as tie
+use Rattle.trials.proofs.text_calls.write_register_to.Statement.{statement}
+use Rattle.trials.proofs.text_calls.write_register_to.Tie as tie
 
 slice-relend-prefix-write-register : tie.Need-slice-relend-prefix-write-register
 slice-relend-prefix-write-register c = search needs
