@@ -1,5 +1,5 @@
 //! The counter program of paper 01 over the plain replica: a register and slips in, answers and balances out.
-//! It owns its state, so it does not look at the state rule at each call; its memory does not grow with its input.
+//! Its memory does not grow with its input. With the word `trusting` it does not ask the state rule at each take: the state is its own.
 
 #[allow(dead_code)] // The counter neither writes texts nor issues.
 mod paper;
@@ -91,7 +91,7 @@ fn write_shops(out: &mut impl Write, replica: &Replica) -> io::Result<()> {
     Ok(())
 }
 
-fn run(input: impl BufRead, out: &mut impl Write) -> io::Result<()> {
+fn run(input: impl BufRead, out: &mut impl Write, trusting: bool) -> io::Result<()> {
     let mut chunks = Chunks::new(input);
     let opened = Replica::open(chunks.next().unwrap_or_default());
     write_number::<2>(out, b"register=", number_of(&opened))?;
@@ -99,7 +99,8 @@ fn run(input: impl BufRead, out: &mut impl Write) -> io::Result<()> {
         let mut list = [0; LIST_ROOM];
         for slip in 1..=MOST_SLIPS {
             let Some(chunk) = chunks.next() else { break };
-            write_answer(out, slip, replica.take_owned(chunk, &mut list))?;
+            let taken = if trusting { replica.take_owned(chunk, &mut list) } else { replica.take(chunk, &mut list) };
+            write_answer(out, slip, taken)?;
         }
         write_shops(out, &replica)?;
     }
@@ -109,7 +110,8 @@ fn run(input: impl BufRead, out: &mut impl Write) -> io::Result<()> {
 fn main() -> ExitCode {
     let input = BufReader::with_capacity(BUFFER, io::stdin().lock());
     let mut out = BufWriter::with_capacity(BUFFER, io::stdout().lock());
-    if run(input, &mut out).is_err() {
+    let trusting = std::env::args().nth(1).is_some_and(|word| word == "trusting");
+    if run(input, &mut out, trusting).is_err() {
         // Nothing is written after a write that failed: the buffer is thrown away.
         let _ = out.into_parts();
         return ExitCode::FAILURE;

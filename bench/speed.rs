@@ -1,4 +1,5 @@
-//! Times a counter program and the plain counter on three large inputs: `speed PROGRAM PLAIN`.
+//! Times a counter program and the plain counter on three large inputs: `speed PROGRAM PLAIN`. The plain one is timed twice: as it
+//! is, asking the state rule at each take as the program does, and trusting its own state.
 //! Times are those of the processor, user and system, best of five runs; the peak is of resident memory.
 
 use std::fs::{self, File};
@@ -94,8 +95,22 @@ fn seconds_of(child: Child) -> io::Result<f64> {
     Ok(usage.times.iter().map(|[seconds, micros]| *seconds as f64 + *micros as f64 / 1e6).sum())
 }
 
-fn start(program: &str, input: &str, output: &str) -> io::Result<Child> {
-    Command::new(program).stdin(File::open(input)?).stdout(File::create(output)?).spawn()
+/// A program that is timed, under a name, with or without a word.
+struct Timed<'a> {
+    name: &'a str,
+    program: &'a str,
+    word: Option<&'a str>,
+}
+
+impl Timed<'_> {
+    fn start(&self, input: &str) -> io::Result<Child> {
+        let mut command = Command::new(self.program);
+        command.args(self.word).stdin(File::open(input)?).stdout(File::create(self.output(input))?).spawn()
+    }
+
+    fn output(&self, input: &str) -> String {
+        format!("{input}-{}", self.name)
+    }
 }
 
 #[derive(Clone, Copy)]
@@ -109,9 +124,9 @@ impl Times {
     const NONE: Times = Times { processor: f64::INFINITY, clock: f64::INFINITY };
 
     /// The better of these and those of one run more.
-    fn and_run(self, program: &str, input: &str, output: &str) -> io::Result<Times> {
+    fn and_run(self, timed: &Timed, input: &str) -> io::Result<Times> {
         let began = Instant::now();
-        let processor = seconds_of(start(program, input, output)?)?;
+        let processor = seconds_of(timed.start(input)?)?;
         let clock = began.elapsed().as_secs_f64();
         Ok(Times { processor: self.processor.min(processor), clock: self.clock.min(clock) })
     }
@@ -124,8 +139,8 @@ fn peak_now(child: &Child) -> Option<u64> {
 }
 
 /// The peak of one run, looked at each millisecond.
-fn peak(program: &str, input: &str, output: &str) -> io::Result<u64> {
-    let mut child = start(program, input, output)?;
+fn peak(timed: &Timed, input: &str) -> io::Result<u64> {
+    let mut child = timed.start(input)?;
     let mut most = 0;
     while child.try_wait()?.is_none() {
         most = most.max(peak_now(&child).unwrap_or(0));
@@ -155,20 +170,26 @@ fn print_line(name: &str, slips: usize, times: Times, peak: u64) {
     println!("  {name:<8} {:7.3} s  {rate:9.0} slips/s  clock {:7.3} s  peak {peak} kB", times.processor, times.clock);
 }
 
-/// Times both programs on one input, run after run in turn; do they write the same?
-fn measure(program: &str, plain: &str, name: &str, slips: usize) -> io::Result<bool> {
+/// Times the programs on one input, run after run in turn; do they all write the same?
+fn measure(all: &[Timed; 3], name: &str, slips: usize) -> io::Result<bool> {
     let input = format!("target/speed-{name}");
-    let outputs = [format!("{input}-program"), format!("{input}-plain")];
-    let mut times = [Times::NONE; 2];
+    let mut times = [Times::NONE; 3];
     for _ in 0..RUNS {
-        times[0] = times[0].and_run(program, &input, &outputs[0])?;
-        times[1] = times[1].and_run(plain, &input, &outputs[1])?;
+        for (best, timed) in times.iter_mut().zip(all) {
+            *best = best.and_run(timed, &input)?;
+        }
     }
-    let equal = same(&outputs[0], &outputs[1])?;
+    let mut equal = true;
+    for timed in &all[1..] {
+        equal &= same(&all[0].output(&input), &timed.output(&input))?;
+    }
     println!("{name}: {slips} slips, outputs {}", if equal { "equal" } else { "DIFFER" });
-    print_line("program", slips, times[0], peak(program, &input, &outputs[0])?);
-    print_line("plain", slips, times[1], peak(plain, &input, &outputs[1])?);
-    println!("  program / plain: {:.2}", times[0].processor / times[1].processor);
+    for (best, timed) in times.iter().zip(all) {
+        print_line(timed.name, slips, *best, peak(timed, &input)?);
+    }
+    for (best, timed) in times.iter().zip(all).skip(1) {
+        println!("  {} / {}: {:.2}", all[0].name, timed.name, times[0].processor / best.processor);
+    }
     Ok(equal)
 }
 
@@ -178,6 +199,11 @@ fn main() -> io::Result<ExitCode> {
         eprintln!("speed PROGRAM PLAIN");
         return Ok(ExitCode::from(2));
     };
+    let all = [
+        Timed { name: "program", program, word: None },
+        Timed { name: "plain", program: plain, word: None },
+        Timed { name: "trusting", program: plain, word: Some("trusting") },
+    ];
     let mut equal = true;
     for name in ["small", "deps", "stuck"] {
         let mut out = BufWriter::new(File::create(format!("target/speed-{name}"))?);
@@ -187,7 +213,7 @@ fn main() -> io::Result<ExitCode> {
             _ => write_stuck(&mut out)?,
         };
         out.flush()?;
-        equal &= measure(program, plain, name, slips)?;
+        equal &= measure(&all, name, slips)?;
     }
     Ok(if equal { ExitCode::SUCCESS } else { ExitCode::FAILURE })
 }
