@@ -13,6 +13,7 @@ pub mod Reading
 pub mod Spelling
 pub mod ReadingTexts
 pub mod Writing
+pub mod Paging
 pub mod Putting
 pub mod Values
 pub mod Places

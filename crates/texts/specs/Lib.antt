@@ -8,6 +8,7 @@ pub mod Lines
 pub mod Entries
 pub mod Answers
 pub mod Written
+pub mod Page
 pub mod Register
 pub mod Slip
 pub mod Payee

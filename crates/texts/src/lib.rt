@@ -5,6 +5,7 @@ mod code;
 mod cursor;
 mod entry;
 mod lines;
+pub mod page;
 mod payee;
 mod pen;
 mod register;

@@ -5,7 +5,6 @@ use mathlib.Core.Bool.{true, false}
 use mathlib.Core.Logic.{⊎-elim}
 use native.Mathlib.Omega.{arith}
 use borrow.Author.Needs.{needs}
-use Rattle.replica.specs.declared.record.Replica.{Replica}
 use Rattle.replica.specs.Settle.{ready, waits, NoneReady}
 use Rattle.replica.proofs.Quiet.{fewer}
 use Rattle.replica.proofs.Going.{not-waiting, first-decides, none-more, Going, going-none, going-movable, going-line, going-fits, going-more, going-done, applied-is}

@@ -1,0 +1,10 @@
+pub mod Examples
+pub mod Reporting
+pub mod Lengths
+pub mod Steps
+pub mod Feeding
+pub mod Long
+pub mod Keeping
+pub mod Slips
+pub mod Printing
+pub mod Windows

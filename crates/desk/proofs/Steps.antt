@@ -1,0 +1,115 @@
+-- The desk byte by byte: windows one after the other, a byte, a desk that has stopped, the end of the input.
+use mathlib.Core.Path.{_≡_, refl, sym, ap, ap₂, _∙_}
+use mathlib.Core.Bool.{Bool, true, false, not, _&&_, _||_}
+use mathlib.Core.List.{List, [], _∷_, _++_, append-assoc}
+use Prim.Native.Nat.{ℕ}
+use lib.Dec.{eqb}
+use Rattle.texts.proofs.Steps.{both}
+use Rattle.replica.specs.declared.record.Replica.{Replica}
+use Rattle.replica.specs.State.{lawful}
+use Rattle.desk.specs.declared.desk.Desk.{Desk}
+use Rattle.desk.specs.Chunks.{emptyLine, cut}
+use Rattle.desk.specs.Printed.{joined, shopsPrinted}
+use Rattle.desk.specs.Desk.{stopped, opens, takes, ends, endSaid, keeps, step, stepSaid, fed, said, unended, last, lastSaid, closing}
+use Rattle.desk.specs.Windows.{saidTo}
+
+-- ---- windows one after the other
+
+pub fed-append : (d : Desk) (u w : List ℕ) → fed d (u ++ w) ≡ fed (fed d u) w
+unfolding fed
+fed-append d [] w = refl
+fed-append d (b ∷ u) w = fed-append (step d b) u w
+
+pub said-append : (d : Desk) (u w : List ℕ) → said d (u ++ w) ≡ said d u ++ said (fed d u) w
+unfolding said fed
+said-append d [] w = refl
+said-append d (b ∷ u) w = ap (λ l. stepSaid d b ++ l) (said-append (step d b) u w) ∙ sym (append-assoc (stepSaid d b) (said (step d b) u) (said (fed (step d b) u) w))
+
+pub said-joined : (d : Desk) (ws : List (List ℕ)) → saidTo d ws ≡ said d (joined ws)
+unfolding saidTo said joined
+said-joined d [] = refl
+said-joined d (w ∷ ws) = ap (λ l. said d w ++ l) (said-joined (fed d w) ws) ∙ sym (said-append d w (joined ws))
+
+-- ---- a byte, and all that is said from it on
+
+abbrev pub output : Desk → List ℕ → List ℕ
+output d w = said d w ++ closing (fed d w)
+
+pub output-append : (d : Desk) (u w : List ℕ) → output d (u ++ w) ≡ said d u ++ output (fed d u) w
+output-append d u w =
+    ap₂ (λ l x. l ++ closing x) (said-append d u w) (fed-append d u w) ∙ append-assoc (said d u) (said (fed d u) w) (closing (fed (fed d u) w))
+
+pub end-output : (d : Desk) → output d [] ≡ closing d
+unfolding said fed
+end-output d = refl
+
+ends-fresh : (d : Desk) → ends d .fresh ≡ d .fresh
+unfolding ends opens takes
+ends-fresh d = go (d .opened) refl
+  where
+    go : (t : Bool) → d .opened ≡ t → ends d .fresh ≡ d .fresh
+    go true e = rw (e, ends)
+    go false e = rw (e, ends)
+
+-- it ends the chunk c or goes on with it, as where the input is cut
+pub byte-output : (d : Desk) (c : List ℕ) (b : ℕ) (w : List ℕ) (prints : List (List ℕ) → List ℕ) → stopped d ≡ false
+    → endSaid d ++ output (ends d) w ≡ prints (c ∷ cut [] (ends d .fresh) w)
+    → output (keeps d b) w ≡ prints (cut (c ++ (b ∷ [])) (keeps d b .fresh) w)
+    → output d (b ∷ w) ≡ prints (cut c (d .fresh) (b ∷ w))
+unfolding said fed step stepSaid cut keeps
+byte-output d c b w prints going ended on = go (emptyLine (d .fresh) b) refl
+  where
+    go : (t : Bool) → emptyLine (d .fresh) b ≡ t → output d (b ∷ w) ≡ prints (cut c (d .fresh) (b ∷ w))
+    go true e =
+        let f : ends d .fresh ≡ true = ends-fresh d ∙ both (d .fresh) (eqb b 10) e .0 in
+        let i : prints (c ∷ cut [] (ends d .fresh) w) ≡ prints (cut c (d .fresh) (b ∷ w)) = rw (e, cut) (ap (λ t. prints (c ∷ cut [] t w)) f) in
+        rw (going, e, step, stepSaid) (append-assoc (endSaid d) (said (ends d) w) (closing (fed (ends d) w)) ∙ ended ∙ i)
+    go false e =
+        let i : prints (cut (c ++ (b ∷ [])) (eqb b 10) w) ≡ prints (cut c (d .fresh) (b ∷ w)) = rw (e, cut) in
+        rw (going, e, step, stepSaid) (on ∙ i)
+
+-- ---- a desk that has stopped
+
+pub stopped-fed : (d : Desk) (w : List ℕ) → stopped d ≡ true → fed d w ≡ d
+unfolding fed step
+stopped-fed d [] e = refl
+stopped-fed d (b ∷ w) e = rw (e, step) (stopped-fed d w e)
+
+pub stopped-said : (d : Desk) (w : List ℕ) → stopped d ≡ true → said d w ≡ []
+unfolding said step stepSaid
+stopped-said d [] e = refl
+stopped-said d (b ∷ w) e = rw (e, step, stepSaid) (stopped-said d w e)
+
+pub stopped-output : (d : Desk) (w : List ℕ) → stopped d ≡ true → output d w ≡ closing d
+stopped-output d w e = ap₂ (λ l x. l ++ closing x) (stopped-said d w e) (stopped-fed d w e)
+
+-- ---- the end of the input
+
+-- the shops, where there is a replica
+unfoldable pub shopsIf : Replica → List ℕ
+shopsIf self = elim (lawful self) [ true ↦ shopsPrinted self | false ↦ [] ]
+
+pub shops-there : (self : Replica) → lawful self ≡ true → shopsIf self ≡ shopsPrinted self
+unfolding shopsIf
+shops-there self e = rw (e, shopsIf)
+
+pub no-shops : (self : Replica) → lawful self ≡ false → shopsIf self ≡ []
+unfolding shopsIf
+no-shops self e = rw (e, shopsIf)
+
+pub closing-ended : (d : Desk) → unended d ≡ false → closing d ≡ shopsIf (d .replica)
+unfolding closing last lastSaid shopsIf
+closing-ended d e =
+    let l : last d ≡ d = rw (e, last) in
+    let s : lastSaid d ≡ [] = rw (e, lastSaid) in
+    ap₂ (λ l (x : Desk). l ++ shopsIf (x .replica)) s l
+
+pub closing-unended : (d : Desk) → unended d ≡ true → closing d ≡ endSaid d ++ shopsIf (ends d .replica)
+unfolding closing last lastSaid shopsIf
+closing-unended d e =
+    let l : last d ≡ ends d = rw (e, last) in
+    let s : lastSaid d ≡ endSaid d = rw (e, lastSaid) in
+    ap₂ (λ l (x : Desk). l ++ shopsIf (x .replica)) s l
+
+pub closing-stopped : (d : Desk) → stopped d ≡ true → closing d ≡ shopsIf (d .replica)
+closing-stopped d e = closing-ended d (ap (λ t. not t && (not (d .opened) || not (eqb (d .len) 0))) e)

@@ -1,0 +1,21 @@
+-- One put, for which there is room.
+use borrow.Author.Needs.{needs}
+use Rattle.texts.proofs.Paging.{put-wrote}
+use Rattle.desk.proofs.report.put_register.Statement.{statement}
+use Rattle.desk.proofs.report.put_register.Tie as tie
+
+slice-aggregate-put-number : tie.Need-slice-aggregate-put-number
+slice-aggregate-put-number c = search needs
+
+put-number-requires : tie.Need-put-number-requires
+put-number-requires c κs = search needs
+
+same-length : tie.Need-same-length
+same-length c = search needs
+
+returns : tie.Need-returns
+returns c = put-wrote (c .before .before .before .before .before .before .pre) (c .before .before .put-number .ensures)
+
+pub put-register-spec : {M : Type 1} → statement M
+put-register-spec =
+    tie.close (tie.spec slice-aggregate-put-number put-number-requires same-length returns)

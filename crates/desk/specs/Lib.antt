@@ -1,0 +1,5 @@
+pub mod Bounds
+pub mod Chunks
+pub mod Printed
+pub mod Desk
+pub mod Windows
