@@ -18,5 +18,8 @@ pub mod Putting
 pub mod Values
 pub mod Places
 pub mod Table
+pub mod Walking
+pub mod Lending
+pub mod ReaderLines
 pub mod WritingTexts
 pub mod Promises

@@ -8,6 +8,7 @@ mod lines;
 pub mod page;
 mod payee;
 mod pen;
+mod reader;
 mod register;
 mod slip;
 

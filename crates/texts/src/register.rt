@@ -9,14 +9,12 @@ use crate::bounds::SHOPS;
 use crate::code::Code;
 use crate::cursor::Cursor;
 use crate::entry::Entry;
-use crate::entry::entries_at;
 use crate::entry::entries_fit;
 use crate::entry::put_entries;
-use crate::lines::code_line;
-use crate::lines::number_line;
 use crate::pen::Written;
 use crate::pen::put_code_line;
 use crate::pen::put_number_line;
+use crate::reader::Reader;
 ghost use mathlib.Core.Path.{_≡_};
 ghost use mathlib.Core.Bool.{true};
 ghost use Prim.Native.Nat.{_+_, _≤_};
@@ -173,15 +171,22 @@ impl Register {
 fn register_at(s: &[u8], c: Cursor) -> RegisterAt
     ensures { λ r. ⌜ Reads registerLayout (now (s .entry)) c (r .register) (r .next) ⌝ }
 {
-    let head = number_line(s, c, b"shops=", 2, 1, SHOPS as u32);
+    let mut reader = Reader { text: s, at: c };
+    let head = reader.number(b"shops=", 2, 1, SHOPS as u32);
+    reader.at = head.next;
     let count = head.value as usize;
-    let list = entries_at(s, head.next, b"shop=", count);
-    let shops = list.entries;
-    let tail = code_line(s, list.next, b"own=", b'\n');
-    let own = tail.code;
-    let next = tail.next;
-    let register = Register { count, shops, own };
-    RegisterAt { register, next }
+    let list = reader.entries(b"shop=", count);
+    reader.at = list.next;
+    let tail = reader.code(b"own=", b'\n');
+    let register = Register {
+        count,
+        shops: list.entries,
+        own: tail.code,
+    };
+    RegisterAt {
+        register,
+        next: tail.next,
+    }
 }
 
 // The register that a text carries.

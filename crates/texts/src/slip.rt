@@ -9,14 +9,12 @@ use crate::bounds::SLIP_ROOM;
 use crate::code::Code;
 use crate::cursor::Cursor;
 use crate::entry::Entry;
-use crate::entry::entries_at;
 use crate::entry::entries_fit;
 use crate::entry::put_entries;
-use crate::lines::code_line;
-use crate::lines::number_line;
 use crate::pen::Written;
 use crate::pen::put_code_line;
 use crate::pen::put_number_line;
+use crate::reader::Reader;
 ghost use mathlib.Core.Path.{_≡_};
 ghost use mathlib.Core.Bool.{true};
 ghost use Rattle.texts.specs.Slip.{noSlip, slipLayout, slipRead, slipWritten, slipBuffer};
@@ -94,26 +92,31 @@ impl Slip {
 fn slip_at(s: &[u8], c: Cursor) -> SlipAt
     ensures { λ r. ⌜ Reads slipLayout (now (s .entry)) c (r .slip) (r .next) ⌝ }
 {
-    let paying = code_line(s, c, b"payer=", b'\n');
-    let payer = paying.code;
-    let numbered = number_line(s, paying.next, b"number=", 6, 0, MOST);
-    let paid = code_line(s, numbered.next, b"payee=", b'\n');
-    let payee = paid.code;
-    let moved = number_line(s, paid.next, b"amount=", 6, 0, MOST);
-    let head = number_line(s, moved.next, b"deps=", 2, 0, DEPS as u32);
+    let mut reader = Reader { text: s, at: c };
+    let paying = reader.code(b"payer=", b'\n');
+    reader.at = paying.next;
+    let numbered = reader.number(b"number=", 6, 0, MOST);
+    reader.at = numbered.next;
+    let paid = reader.code(b"payee=", b'\n');
+    reader.at = paid.next;
+    let moved = reader.number(b"amount=", 6, 0, MOST);
+    reader.at = moved.next;
+    let head = reader.number(b"deps=", 2, 0, DEPS as u32);
+    reader.at = head.next;
     let count = head.value as usize;
-    let list = entries_at(s, head.next, b"dep=", count);
-    let deps = list.entries;
-    let next = list.next;
+    let list = reader.entries(b"dep=", count);
     let slip = Slip {
-        payer,
+        payer: paying.code,
         number: numbered.value,
-        payee,
+        payee: paid.code,
         amount: moved.value,
         count,
-        deps,
+        deps: list.entries,
     };
-    SlipAt { slip, next }
+    SlipAt {
+        slip,
+        next: list.next,
+    }
 }
 
 // The slip that a text carries.
