@@ -1,6 +1,6 @@
 -- The desk's steps: what a chunk's end, a byte, a window and the end of the input come to.
 use mathlib.Core.Path.{_≡_, refl, sym, ap, _∙_, subst}
-use mathlib.Core.Bool.{Bool, true, false, not, _&&_, _||_, false≢true}
+use mathlib.Core.Bool.{Bool, true, false, not, _&&_, _||_}
 use mathlib.Core.List.{List, [], _∷_, _++_, append-nil}
 use Prim.Native.Nat.{ℕ, _+_, _*_, _≤_, _<_}
 use native.Mathlib.Omega.{arith}
@@ -9,28 +9,23 @@ use lib.Dec.{leb, eqb}
 use lib.ListN.{length, take, drop, getD, set, replicate, take-append-drop}
 use lib.Seq.{take-all, take-suc, take-take}
 use borrow.Author.Tests.{leb-false, lt-ltb, le-ltb}
-use Rattle.texts.specs.Answers.{first}
-use Rattle.texts.specs.Layout.{past, whole}
-use Rattle.texts.specs.Register.{registerLayout, registerIn, registerTextAnswer, registerRead}
 use Rattle.texts.specs.Inside.{Room, Wrote}
 use Rattle.texts.specs.Written.{over}
 use Rattle.texts.proofs.Steps.{neither}
-use Rattle.texts.proofs.Writing.{wrote-then}
+use Rattle.texts.proofs.Writing.{wrote-nothing, wrote-over, wrote-then}
 use Rattle.replica.specs.declared.record.Replica.{Replica}
 use Rattle.replica.specs.declared.outcome.Outcome.{Outcome}
 use Rattle.replica.specs.Record.{noReplica}
 use Rattle.replica.specs.State.{lawful}
-use Rattle.replica.specs.Outcome.{did}
-use Rattle.replica.specs.Open.{fresh, opened}
+use Rattle.replica.specs.Open.{opened}
 use Rattle.replica.specs.Take.{taken}
-use Rattle.replica.proofs.Answered.{outcomeIf}
+use Rattle.replica.proofs.Promises.{refused-gives-zeros, empty-register-refused}
 use Rattle.desk.specs.declared.desk.Desk.{Desk}
 use Rattle.desk.specs.Bounds.{mostSlips, mostKept, mostSaid, windowSize, pageSize}
 use Rattle.desk.specs.Chunks.{emptyLine}
 use Rattle.desk.specs.Printed.{registerLine, slipLines, shopsPrinted, lent}
-use Rattle.desk.specs.Desk.{newDesk, stopped, kept, opens, takes, ends, endSaid, keeps, step, stepSaid, fed, said, unended, last, lastSaid, closing}
-use Rattle.desk.proofs.Reporting.{wrote-nothing}
-use Rattle.desk.proofs.Steps.{fed-append, said-append, stopped-fed, stopped-said}
+use Rattle.desk.specs.Desk.{newDesk, stopped, kept, opens, takes, ends, endSaid, keeps, step, stepSaid, fed, said, last, lastSaid, closing}
+use Rattle.desk.proofs.Steps.{fed-append, said-append, stopped-fed, stopped-said, shops-there, no-shops, last-none, last-ends, closing-is}
 use Rattle.desk.proofs.Lengths.{register-line-most, slip-lines-most, end-said-most, last-said-most, shops-most}
 
 -- ---- whether it is over, and the part of a length that lies within the bytes
@@ -44,13 +39,8 @@ within-short bytes len h = (omega arith, take-all (length bytes) bytes (omega ar
 -- ---- nothing has come in
 
 -- the empty text is refused
-nothing-read : registerRead [] .answer ≡ 1
-unfolding registerRead registerTextAnswer registerIn registerLayout whole past first
-nothing-read = refl
-
 opened-nothing : opened [] .replica ≡ noReplica
-unfolding opened
-opened-nothing = ap (λ n. outcomeIf (did 0 (fresh (registerRead [] .register))) noReplica n .replica) nothing-read
+opened-nothing = refused-gives-zeros [] (λ e. omega (arith, empty-register-refused))
 
 pub new-is : (o : Outcome) → o ≡ opened []
     → record { replica = o .replica; bytes = replicate mostKept 0; len = 0; fresh = true; opened = false; refused = false; slips = 0 } ≡ newDesk
@@ -91,12 +81,10 @@ slip-room p at slip answer applied h = record { fits = omega (arith, slip-lines-
 
 -- what is chosen by a test
 chosen : {A : Type 0} (b : Bool) (x y : A) → b ≡ true → x ≡ (elim b [ true ↦ x | false ↦ y ])
-chosen true x y e = refl
-chosen false x y e = absurd (false≢true e)
+chosen b x y e = rw e
 
 other : {A : Type 0} (b : Bool) (x y : A) → b ≡ false → y ≡ (elim b [ true ↦ x | false ↦ y ])
-other true x y e = absurd (false≢true (sym e))
-other false x y e = refl
+other b x y e = rw e
 
 -- the first chunk, or a later one
 pub ends-slip : (d : Desk) → d .opened ≡ true
@@ -118,20 +106,12 @@ renamed {p = p} {p′} {at} {n} s w = (w .0 ∙ s .0, subst (λ (t : List ℕ). 
 pub slips-left : (d : Desk) → stopped d ≡ false → d .slips < mostSlips
 slips-left d e = leb-false mostSlips (d .slips) (neither (d .refused) (leb mostSlips (d .slips)) e .1)
 
-not-ended : (d : Desk) → unended d ≡ false → (d ≡ last d) × ([] ≡ lastSaid d)
-unfolding last lastSaid
-not-ended d e = (other (unended d) (ends d) d e, other (unended d) (endSaid d) [] e)
-
 pub last-stopped : (d : Desk) → stopped d ≡ true → (d ≡ last d) × ([] ≡ lastSaid d)
-last-stopped d e = not-ended d (ap (λ b. not b && (not (d .opened) || not (eqb (d .len) 0))) e)
+last-stopped d e = last-none d (ap (λ b. not b && (not (d .opened) || not (eqb (d .len) 0))) e)
 
 pub last-empty : (d : Desk) → stopped d ≡ false → d .opened ≡ true → eqb (d .len) 0 ≡ true → (d ≡ last d) × ([] ≡ lastSaid d)
 last-empty d e o z =
-    not-ended d (ap (λ b. not b && (not (d .opened) || not (eqb (d .len) 0))) e ∙ ap (λ b. not b || not (eqb (d .len) 0)) o ∙ ap not z)
-
-last-ends : (d : Desk) → unended d ≡ true → (ends d ≡ last d) × (endSaid d ≡ lastSaid d)
-unfolding last lastSaid
-last-ends d e = (chosen (unended d) (ends d) d e, chosen (unended d) (endSaid d) [] e)
+    last-none d (ap (λ b. not b && (not (d .opened) || not (eqb (d .len) 0))) e ∙ ap (λ b. not b || not (eqb (d .len) 0)) o ∙ ap not z)
 
 pub last-register : (d : Desk) → stopped d ≡ false → d .opened ≡ false → (ends d ≡ last d) × (endSaid d ≡ lastSaid d)
 last-register d e o = last-ends d (ap (λ b. not b && (not (d .opened) || not (eqb (d .len) 0))) e ∙ ap (λ b. not b || not (eqb (d .len) 0)) o)
@@ -140,27 +120,19 @@ pub last-slip : (d : Desk) → stopped d ≡ false → d .opened ≡ true → eq
 last-slip d e o z =
     last-ends d (ap (λ b. not b && (not (d .opened) || not (eqb (d .len) 0))) e ∙ ap (λ b. not b || not (eqb (d .len) 0)) o ∙ ap not z)
 
--- what was written from the front on stands over the page
-wrote-over : {p p′ : List ℕ} {n : ℕ} (t : List ℕ) → Wrote p 0 t p′ n → (n ≡ length t) × (p′ ≡ over t p)
-wrote-over {p} t w = let z : 0 + length t ≡ length t = omega arith in (w .past ∙ z, w .holds ∙ ap (λ k. t ++ drop k p) z)
-
 module _ {p p₁ : List ℕ} {n₁ : ℕ} (d e : Desk) (done : (e ≡ last d) × Wrote p 0 (lastSaid d) p₁ n₁) where
   pub closing-room : lawful (e .replica) ≡ true → length p ≡ pageSize → Room p₁ n₁ (shopsPrinted (e .replica))
   closing-room l h = record { fits = omega (arith, shops-most (e .replica) l, last-said-most d, done .1 .past, done .1 .size) }
 
   pub closing-shops : {p₂ : List ℕ} {n₂ : ℕ} → lawful (e .replica) ≡ true → Wrote p₁ n₁ (shopsPrinted (e .replica)) p₂ n₂
       → (n₂ ≡ length (closing d)) × (p₂ ≡ over (closing d) p)
-  unfolding closing
   closing-shops {p₂} {n₂} l w =
-      let same : lastSaid d ++ shopsPrinted (e .replica) ≡ closing d =
-      ap (λ t. lastSaid d ++ t) (ap (λ (x : Desk). shopsPrinted (x .replica)) (done .0) ∙ chosen (lawful (last d .replica)) _ [] (ap (λ (x : Desk). lawful (x .replica)) (sym (done .0)) ∙ l)) in
+      let same = ap (λ t. lastSaid d ++ t) (sym (shops-there (e .replica) l)) ∙ closing-is d e (lastSaid d) (done .0, refl) in
       wrote-over (closing d) (subst (λ (t : List ℕ). Wrote p 0 t p₂ n₂) same (wrote-then (done .1) w))
 
   pub closing-none : lawful (e .replica) ≡ false → (n₁ ≡ length (closing d)) × (p₁ ≡ over (closing d) p)
-  unfolding closing
   closing-none l =
-      let same : lastSaid d ≡ closing d =
-      sym (append-nil (lastSaid d)) ∙ ap (λ t. lastSaid d ++ t) (other (lawful (last d .replica)) (shopsPrinted (last d .replica)) [] (ap (λ (x : Desk). lawful (x .replica)) (sym (done .0)) ∙ l)) in
+      let same = sym (append-nil (lastSaid d)) ∙ ap (λ t. lastSaid d ++ t) (sym (no-shops (e .replica) l)) ∙ closing-is d e (lastSaid d) (done .0, refl) in
       wrote-over (closing d) (subst (λ (t : List ℕ). Wrote p 0 t p₁ n₁) same (done .1))
 
 -- ---- the bytes of a window
@@ -168,13 +140,11 @@ module _ {p p₁ : List ℕ} {n₁ : ℕ} (d e : Desk) (done : (e ≡ last d) ×
 -- a desk that has not stopped: a chunk ends, or the byte is kept
 step-ends : (d : Desk) (b : ℕ) → stopped d ≡ false → emptyLine (d .fresh) b ≡ true → (ends d ≡ step d b) × (endSaid d ≡ stepSaid d b)
 unfolding step stepSaid
-step-ends d b e t =
-    (chosen (emptyLine (d .fresh) b) (ends d) (keeps d b) t ∙ other (stopped d) d _ e, chosen (emptyLine (d .fresh) b) (endSaid d) [] t ∙ other (stopped d) [] _ e)
+step-ends d b e t = rw (e, t, step, stepSaid) (refl, refl)
 
 step-keeps : (d : Desk) (b : ℕ) → stopped d ≡ false → emptyLine (d .fresh) b ≡ false → (keeps d b ≡ step d b) × ([] ≡ stepSaid d b)
 unfolding step stepSaid
-step-keeps d b e t =
-    (other (emptyLine (d .fresh) b) (ends d) (keeps d b) t ∙ other (stopped d) d _ e, other (emptyLine (d .fresh) b) (endSaid d) [] t ∙ other (stopped d) [] _ e)
+step-keeps d b e t = rw (e, t, step, stepSaid) (refl, refl)
 
 -- no empty line: no line begins, or it is another byte
 pub no-line : (begins : Bool) (b : ℕ) → begins ≡ false → emptyLine begins b ≡ false

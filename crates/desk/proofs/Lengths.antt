@@ -1,8 +1,7 @@
--- How long the texts are that the desk prints at one byte and at the end, and how many slips one take applies.
+-- How long the texts are that the desk prints at one byte and at the end.
 use mathlib.Core.Path.{_≡_, refl, sym, ap, _∙_}
 use mathlib.Core.Bool.{Bool, true, false}
-use mathlib.Core.Option.{Option, none, some}
-use mathlib.Core.List.{List, [], _∷_, _++_}
+use mathlib.Core.List.{List, _++_}
 use Prim.Native.Nat.{ℕ, zero, suc, _+_, _*_, _≤_, _<_}
 use native.Mathlib.Omega.{arith}
 use native.Mathlib.Nat.{suc-mul, mul-le-mul-right, le-trans}
@@ -17,24 +16,22 @@ use Rattle.texts.specs.declared.code.Code.{Code}
 use Rattle.texts.proofs.Legal.{register-legal}
 use Rattle.texts.proofs.Lengths.{code-line-most}
 use Rattle.texts.proofs.Paging.{line-length}
+use Rattle.texts.proofs.Promises.{why-at-most}
 use Rattle.replica.specs.declared.record.Replica.{Replica}
 use Rattle.replica.specs.declared.outcome.Outcome.{Outcome}
+use Rattle.replica.specs.Bounds.{listRoom}
 use Rattle.replica.specs.Record.{listedAt, shopCount, shopAt, lineAt}
 use Rattle.replica.specs.Slips.{firsts}
 use Rattle.replica.specs.State.{lawful}
-use Rattle.replica.specs.Outcome.{did}
-use Rattle.replica.specs.Settle.{apply, firstReady, order, waits, settled, applying}
 use Rattle.replica.specs.Open.{opened}
-use Rattle.replica.specs.Take.{takeAnswer, taken, entered, slipFrom}
-use Rattle.replica.proofs.Answered.{outcomeIf}
+use Rattle.replica.specs.Take.{taken}
 use Rattle.replica.proofs.Parts.{parts}
-use Rattle.replica.proofs.Most.{sum-most}
-use Rattle.replica.proofs.Taken.{entered-lawful}
+use Rattle.replica.proofs.Promises.{count-at-most}
 use Rattle.desk.specs.declared.desk.Desk.{Desk}
 use Rattle.desk.specs.Bounds.{mostSaid}
 use Rattle.desk.specs.Printed.{numbered, registerLine, answerLines, slipLines, numbersLines, shopLines, joined, shopPrinted, shopsPrinted, lent}
 use Rattle.desk.specs.Desk.{kept, unended, endSaid, lastSaid}
-use Rattle.desk.proofs.Reporting.{why-most, shop-code}
+use Rattle.desk.proofs.Reporting.{joined-none, more-length, has-code}
 
 -- ---- at one byte
 
@@ -44,7 +41,7 @@ register-line-most answer = omega (arith, line-length (bytes "register=") 2 answ
 answer-lines-most : (answer : ℕ) → length (answerLines answer) ≤ 23
 answer-lines-most answer =
     let w = why answer in
-    omega (arith, length-append (numbered (bytes "answer=") 2 answer) (bytes "why=" ++ (w ++ bytes "\n")), line-length (bytes "answer=") 2 answer, length-append (bytes "why=") (w ++ bytes "\n"), length-append w (bytes "\n"), why-most answer)
+    omega (arith, length-append (numbered (bytes "answer=") 2 answer) (bytes "why=" ++ (w ++ bytes "\n")), line-length (bytes "answer=") 2 answer, length-append (bytes "why=") (w ++ bytes "\n"), length-append w (bytes "\n"), why-at-most answer)
 
 pub slip-lines-most : (slip answer applied : ℕ) → length (slipLines slip answer applied) ≤ mostSaid
 slip-lines-most slip answer applied =
@@ -81,17 +78,14 @@ shop-lines-most code balance applied waits h =
     omega (arith, length-append t (numbersLines balance applied waits), code-line-most (bytes "shop=") 14 refl .most code h, numbers-length balance applied waits)
 
 joined-most : (m n : ℕ) (f : ℕ → List ℕ) → ((i : ℕ) → i < n → length (f i) ≤ m) → length (joined (firsts n f)) ≤ n * m
-unfolding joined firsts
-joined-most m zero f h = omega arith
-joined-most m (suc n) f h =
-    let g : ℕ → List ℕ = λ i. f (i + 1) in
-    omega (arith, suc-mul n m, length-append (f 0) (joined (firsts n g)), h 0 (omega arith), joined-most m n g (λ i l. h (i + 1) (omega arith)))
+joined-most m zero f h = omega (arith, ap length (joined-none f))
+joined-most m (suc n) f h = omega (arith, suc-mul n m, more-length f n, h n (omega arith), joined-most m n f (λ i l. h i (omega arith)))
 
 pub shops-most : (self : Replica) → lawful self ≡ true → length (shopsPrinted self) ≤ 816
 unfolding shopsPrinted
 shops-most self l =
     let few = register-legal (self .register) (parts self l .register) .fits .most in
-    le-trans (joined-most 51 (shopCount self) (shopPrinted self) (λ i h. shop-lines-most (listedAt (self .register) i .code) (shopAt self i .balance) (shopAt self i .applied) (lineAt self i .count) (shop-code self l i h))) (mul-le-mul-right 51 few)
+    le-trans (joined-most 51 (shopCount self) (shopPrinted self) (λ i h. shop-lines-most (listedAt (self .register) i .code) (shopAt self i .balance) (shopAt self i .applied) (lineAt self i .count) (has-code self l i h))) (mul-le-mul-right 51 few)
 
 -- ---- the front of a page
 
@@ -104,32 +98,5 @@ front-length text page after count e h = sym (length-take-le count after (front-
 
 -- ---- the slips that one take applies
 
-order-most : (k : ℕ) (self : Replica) → length (order k self) ≤ k
-unfolding order
-order-most zero self = omega arith
-order-most (suc k) self = go (firstReady self) (λ p. order-most k (apply self p))
-  where
-    go : (o : Option ℕ) → ((p : ℕ) → length (order k (apply self p)) ≤ k) → length {A = ℕ} (elim o [ none ↦ [] | some p ↦ p ∷ order k (apply self p) ]) ≤ suc k
-    go none ih = omega arith
-    go (some p) ih = omega (arith, ih p)
-
-waits-most : (self : Replica) → lawful self ≡ true → waits self ≤ 128
-unfolding waits
-waits-most self l =
-    let P = parts self l in
-    let few = register-legal (self .register) (P .register) .fits .most in
-    omega (arith, few, sum-most 8 (shopCount self) (λ p. lineAt self p .count) (λ p h. P .lined p h .eight))
-
-count-most : (self : Replica) (text list : List ℕ) → taken self text list .count ≤ 128
-unfolding taken
-count-most self text list = go (takeAnswer self text list) (entered-lawful self text list)
-  where
-    next : Replica
-    next = entered self (slipFrom text)
-
-    go : (n : ℕ) → (n ≡ 0 → lawful next ≡ true) → outcomeIf (did (length (applying next)) (settled next)) self n .count ≤ 128
-    go zero l = omega (arith, order-most (waits next) next, waits-most next (l refl))
-    go (suc n) l = omega arith
-
-pub count-fits : (o : Outcome) (self : Replica) (text list : List ℕ) → o ≡ taken self text list → o .count ≤ 128
-count-fits o self text list e = omega (arith, ap (λ (o : Outcome). o .count) e, count-most self text list)
+pub count-fits : (o : Outcome) (self : Replica) (text list : List ℕ) → o ≡ taken self text list → o .count ≤ listRoom
+count-fits o self text list e = omega (arith, ap (λ (o : Outcome). o .count) e, count-at-most self text list)

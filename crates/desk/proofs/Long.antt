@@ -1,5 +1,5 @@
 -- A chunk longer than any text is refused by its first 367 bytes just as by the whole of it.
-use mathlib.Core.Path.{_≡_, refl, sym, ap, ap₂, _∙_}
+use mathlib.Core.Path.{_≡_, refl, sym, ap, _∙_}
 use mathlib.Core.Bool.{Bool, true, false}
 use mathlib.Core.Option.{Option, none, some}
 use mathlib.Core.List.{List}
@@ -10,23 +10,16 @@ use lib.Seq.{take-all}
 use lib.Dec.{leb}
 use borrow.Author.Tests.{leb-true, leb-false}
 use Rattle.texts.specs.Bounds.{slipRoom}
-use Rattle.texts.specs.Answers.{answerOf}
 use Rattle.texts.specs.Register.{registerIn}
 use Rattle.texts.specs.Slip.{slipIn}
 use Rattle.texts.specs.declared.register.Register.{Register}
-use Rattle.texts.specs.declared.register.RegisterRead.{RegisterRead}
 use Rattle.texts.specs.declared.slip.Slip.{Slip}
-use Rattle.texts.specs.declared.slip.SlipRead.{SlipRead}
 use Rattle.texts.proofs.LawsTexts.{register-only, slip-only}
-use Rattle.texts.proofs.Lengths.{register-most, slip-most}
-use Rattle.texts.proofs.ReadingTexts.{register-answer, slip-answer}
+use Rattle.texts.proofs.Promises.{register-at-most, slip-at-most}
 use Rattle.replica.specs.declared.record.Replica.{Replica}
-use Rattle.replica.specs.Record.{noReplica}
-use Rattle.replica.specs.Settle.{settled, applying}
-use Rattle.replica.specs.Outcome.{did}
-use Rattle.replica.specs.Open.{fresh, opened}
-use Rattle.replica.specs.Take.{slipFrom, takeRows, entered, taken}
-use Rattle.replica.proofs.Answered.{outcomeIf}
+use Rattle.replica.specs.Open.{opened}
+use Rattle.replica.specs.Take.{taken}
+use Rattle.replica.proofs.Promises.{same-register-opens-alike, same-slip-taken-alike}
 use Rattle.desk.specs.Bounds.{mostKept}
 
 -- where all texts longer than a slip's fare alike, the kept bytes of a chunk fare as the whole
@@ -44,17 +37,10 @@ no-slip t h = go (slipIn t) refl
   where
     go : (o : Option Slip) → slipIn t ≡ o → slipIn t ≡ none
     go none e = e
-    go (some s) e = let k = slip-only t s e in absurd (omega (arith, slip-most s (k .0), ap length (k .1)))
-
-taken-alike : (self : Replica) (s t list : List ℕ) → slipIn s ≡ slipIn t → taken self s list ≡ taken self t list
-unfolding taken takeRows
-taken-alike self s t list e =
-    let r : slipFrom s ≡ slipFrom t = ap (λ (x : SlipRead). x .slip) (sym (slip-answer s (slipIn t) e) ∙ slip-answer t (slipIn t) refl) in
-    let rows : takeRows self s list ≡ takeRows self t list = rw (e, r) in
-    ap₂ (λ (x : Slip) rows. outcomeIf (did (length (applying (entered self x))) (settled (entered self x))) self (answerOf rows)) r rows
+    go (some s) e = let k = slip-only t s e in absurd (omega (arith, slip-at-most s (k .0), ap length (k .1)))
 
 pub taken-kept : (self : Replica) (list c : List ℕ) → taken self (take mostKept c) list ≡ taken self c list
-taken-kept self list c = as-whole (λ t. taken self t list) (λ s t h k. taken-alike self s t list (no-slip s h ∙ sym (no-slip t k))) c
+taken-kept self list c = as-whole (λ t. taken self t list) (λ s t h k. same-slip-taken-alike self s t list (no-slip s h ∙ sym (no-slip t k)) .0) c
 
 -- ---- registers
 
@@ -63,13 +49,7 @@ no-register t h = go (registerIn t) refl
   where
     go : (o : Option Register) → registerIn t ≡ o → registerIn t ≡ none
     go none e = e
-    go (some r) e = let k = register-only t r e in absurd (omega (arith, register-most r (k .0), ap length (k .1)))
-
-opened-alike : (s t : List ℕ) → registerIn s ≡ registerIn t → opened s ≡ opened t
-unfolding opened
-opened-alike s t e =
-    let r = sym (register-answer s (registerIn t) e) ∙ register-answer t (registerIn t) refl in
-    ap (λ (x : RegisterRead). outcomeIf (did 0 (fresh (x .register))) noReplica (x .answer)) r
+    go (some r) e = let k = register-only t r e in absurd (omega (arith, register-at-most r (k .0), ap length (k .1)))
 
 pub opened-kept : (c : List ℕ) → opened (take mostKept c) ≡ opened c
-opened-kept c = as-whole opened (λ s t h k. opened-alike s t (no-register s h ∙ sym (no-register t k))) c
+opened-kept c = as-whole opened (λ s t h k. same-register-opens-alike s t (no-register s h ∙ sym (no-register t k))) c

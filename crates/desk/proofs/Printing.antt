@@ -1,6 +1,6 @@
 -- From a new desk to the end of the input is said what `printed` says of the whole input.
 use mathlib.Core.Path.{_≡_, refl, sym, ap, ap₂, _∙_}
-use mathlib.Core.Bool.{Bool, true, false, not, _||_}
+use mathlib.Core.Bool.{true, false, not, _||_}
 use mathlib.Core.List.{List, [], _∷_, _++_}
 use Prim.Native.Nat.{ℕ, zero, suc, _+_, _-_}
 use native.Mathlib.Omega.{arith}
@@ -8,17 +8,11 @@ use lib.ListN.{take, length-replicate}
 use lib.Seq.{take-nil}
 use lib.Dec.{leb, eqb}
 use borrow.Author.Tests.{lt-leb, ne-eqb}
-use Rattle.texts.specs.Register.{registerRead}
-use Rattle.texts.proofs.Legal.{register-legal}
 use Rattle.replica.specs.declared.record.Replica.{Replica}
 use Rattle.replica.specs.declared.outcome.Outcome.{Outcome}
 use Rattle.replica.specs.Record.{noReplica}
-use Rattle.replica.specs.State.{lawful}
-use Rattle.replica.specs.Outcome.{did}
-use Rattle.replica.specs.Open.{fresh, opened}
-use Rattle.replica.proofs.Answered.{answer-if, kept-if}
-use Rattle.replica.proofs.Parts.{parts}
-use Rattle.replica.proofs.Promises.{opens-lawful}
+use Rattle.replica.specs.Open.{opened}
+use Rattle.replica.proofs.Promises.{opens-lawful, refused-gives-zeros, zeros-unlawful}
 use Rattle.desk.specs.declared.desk.Desk.{Desk}
 use Rattle.desk.specs.Bounds.{mostSlips, mostKept}
 use Rattle.desk.specs.Chunks.{atEnd, cut, registerIn, slipsIn}
@@ -28,21 +22,6 @@ use Rattle.desk.proofs.Long.{opened-kept}
 use Rattle.desk.proofs.Keeping.{Holds, none-held, one-more-held}
 use Rattle.desk.proofs.Steps.{output, end-output, byte-output, stopped-output, shopsIf, shops-there, no-shops, closing-unended, closing-stopped}
 use Rattle.desk.proofs.Slips.{Taking, slipsLeft, none-left, slips-output}
-
--- ---- a refused register
-
-opened-zeros : (text : List ℕ) → (opened text .answer ≡ 0 → ⊥) → opened text .replica ≡ noReplica
-unfolding opened
-opened-zeros text h =
-    let o = did 0 (fresh (registerRead text .register)) in
-    kept-if o noReplica [] [] (registerRead text .answer) (λ e. h (answer-if o noReplica refl (registerRead text .answer) ∙ e)) .state
-
-zeros-unlawful : lawful noReplica ≡ false
-zeros-unlawful = go (lawful noReplica) refl
-  where
-    go : (t : Bool) → lawful noReplica ≡ t → lawful noReplica ≡ false
-    go true e = absurd (omega (arith, register-legal (noReplica .register) (parts noReplica e .register) .fits .some))
-    go false e = e
 
 -- ---- the register
 
@@ -94,7 +73,7 @@ module _ (d : Desk) (c : List ℕ) (R : Reading d c) where
   unfolding ends opens
   refuses h =
       let z : opened (kept d) .answer ≡ 0 → ⊥ = λ e. h (ap (λ (o : Outcome). o .answer) (sym kept-opened) ∙ e) in
-      let r : ends d .replica ≡ noReplica = rw (R .opened, ends) (opened-zeros (kept d) z) in
+      let r : ends d .replica ≡ noReplica = rw (R .opened, ends) (refused-gives-zeros (kept d) z) in
       let s : ends d .refused ≡ true = rw (R .opened, ends) (ap not (ne-eqb (opened (kept d) .answer) 0 z)) in
       (ap (λ t. t || leb mostSlips (ends d .slips)) s, ap shopsIf r ∙ no-shops noReplica zeros-unlawful)
 

@@ -97,19 +97,25 @@ pub no-shops : (self : Replica) → lawful self ≡ false → shopsIf self ≡ [
 unfolding shopsIf
 no-shops self e = rw (e, shopsIf)
 
+-- no chunk is left, or one that no empty line ended
+pub last-none : (d : Desk) → unended d ≡ false → (d ≡ last d) × ([] ≡ lastSaid d)
+unfolding last lastSaid
+last-none d e = rw (e, last, lastSaid) (refl, refl)
+
+pub last-ends : (d : Desk) → unended d ≡ true → (ends d ≡ last d) × (endSaid d ≡ lastSaid d)
+unfolding last lastSaid
+last-ends d e = rw (e, last, lastSaid) (refl, refl)
+
+-- its lines, and then the shops
+pub closing-is : (d e : Desk) (t : List ℕ) → (e ≡ last d) × (t ≡ lastSaid d) → t ++ shopsIf (e .replica) ≡ closing d
+unfolding closing shopsIf
+closing-is d e t s = ap₂ (λ l (x : Desk). l ++ shopsIf (x .replica)) (s .1) (s .0)
+
 pub closing-ended : (d : Desk) → unended d ≡ false → closing d ≡ shopsIf (d .replica)
-unfolding closing last lastSaid shopsIf
-closing-ended d e =
-    let l : last d ≡ d = rw (e, last) in
-    let s : lastSaid d ≡ [] = rw (e, lastSaid) in
-    ap₂ (λ l (x : Desk). l ++ shopsIf (x .replica)) s l
+closing-ended d e = sym (closing-is d d [] (last-none d e))
 
 pub closing-unended : (d : Desk) → unended d ≡ true → closing d ≡ endSaid d ++ shopsIf (ends d .replica)
-unfolding closing last lastSaid shopsIf
-closing-unended d e =
-    let l : last d ≡ ends d = rw (e, last) in
-    let s : lastSaid d ≡ endSaid d = rw (e, lastSaid) in
-    ap₂ (λ l (x : Desk). l ++ shopsIf (x .replica)) s l
+closing-unended d e = sym (closing-is d (ends d) (endSaid d) (last-ends d e))
 
 pub closing-stopped : (d : Desk) → stopped d ≡ true → closing d ≡ shopsIf (d .replica)
 closing-stopped d e = closing-ended d (ap (λ t. not t && (not (d .opened) || not (eqb (d .len) 0))) e)

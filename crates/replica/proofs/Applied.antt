@@ -15,7 +15,7 @@ use Rattle.texts.specs.Entries.{noEntry}
 use Rattle.texts.specs.declared.entry.Entry.{Entry}
 use Rattle.texts.specs.declared.register.Register.{Register}
 use Rattle.texts.specs.declared.slip.Slip.{Slip}
-use Rattle.texts.proofs.Steps.{both, and, all-append, all-drop}
+use Rattle.texts.proofs.Steps.{both, all-none, all-and, all-append, all-drop}
 use Rattle.texts.proofs.Legal.{code-same, code-some, slip-legal, RegisterLegal, register-legal}
 use Rattle.replica.specs.declared.record.Shop.{Shop}
 use Rattle.replica.specs.declared.record.Waiting.{Waiting}
@@ -89,14 +89,13 @@ module _ (l : Line) (places : length (l .slips) ≡ 8) (some : 0 < l .count) (ei
   less-places = length-append (drop 1 (l .slips)) (noWaiting ∷ []) ∙ omega (arith, length-drop 1 (l .slips))
 
   less-rest : allOf zeroWaiting (drop (l .count) (l .slips)) ≡ true → allOf zeroWaiting (drop (l .count - 1) (withoutFirst l .slips)) ≡ true
-  unfolding allOf
   less-rest h =
       let k : l .count - 1 ≤ length (drop 1 (l .slips)) = omega (arith, length-drop 1 (l .slips)) in
       let c : 1 + (l .count - 1) ≡ l .count = omega arith in
       ap (allOf zeroWaiting)
       (drop-append-le (l .count - 1) (drop 1 (l .slips)) (noWaiting ∷ []) k
       ∙ ap (λ x. x ++ (noWaiting ∷ [])) (drop-drop (l .count - 1) 1 (l .slips) ∙ ap (λ (i : ℕ). drop i (l .slips)) c))
-      ∙ all-append zeroWaiting (drop (l .count) (l .slips)) (noWaiting ∷ []) h (and _ _ zero-waiting refl)
+      ∙ all-append zeroWaiting (drop (l .count) (l .slips)) (noWaiting ∷ []) h (all-and zeroWaiting noWaiting [] zero-waiting (all-none zeroWaiting))
 
   less-at : (k : ℕ) (z : Waiting) → k + 1 < l .count → getD (withoutFirst l .slips) k z ≡ getD (l .slips) (k + 1) z
   less-at k z h =
@@ -192,7 +191,7 @@ module _ (self : Replica) (p : ℕ) (P : Parts self) (h : p < shopCount self) (e
       }
     where
       last : allOf fits (noWaiting ∷ []) ≡ true
-      last = unfold allOf in and (fits noWaiting) true (drop-replicate (shopCount self) 16 0 (eqb 0) refl) refl
+      last = all-and fits noWaiting [] (drop-replicate (shopCount self) 16 0 (eqb 0) refl) (all-none fits)
 
       upper : (t : Bool) → (elim t as (λ _. ℕ) [ true ↦ firstWaiting self p .number | false ↦ shopAt self p .mark ]) ≤ shopAt self p .applied + 1
       upper true = omega (arith, P .lined p h .numbers 0 some)

@@ -9,16 +9,15 @@ use lib.Seq.{getD-take, length-take-le, take-at}
 use lib.Dec.{eqb}
 use borrow.Author.Tests.{eqb-true, ltb-false}
 use Rattle.texts.specs.Bytes.{allOf}
-use Rattle.texts.specs.Code.{noCode, code, sameCode}
+use Rattle.texts.specs.Code.{noCode, sameCode}
 use Rattle.texts.specs.Entries.{noEntry}
-use Rattle.texts.specs.Register.{shopLine, place, among, twins, shopsOf, position}
-use Rattle.texts.specs.Lines.{six}
+use Rattle.texts.specs.Register.{place, among, twins, shopsOf, position}
 use Rattle.texts.specs.declared.code.Code.{Code}
 use Rattle.texts.specs.declared.entry.Entry.{Entry}
 use Rattle.texts.specs.declared.register.Register.{Register}
 use Rattle.texts.proofs.Steps.{both, all-zeros, all-at}
 use Rattle.texts.proofs.LawsTexts.{same-code}
-use Rattle.texts.proofs.Legal.{code-same, code-not-zeros, RegisterLegal, register-legal, place-head, place-later, single-more}
+use Rattle.texts.proofs.Legal.{code-same, zeros-unlisted, RegisterLegal, register-legal, place-head, place-later, single-more}
 use Rattle.replica.specs.declared.record.Waiting.{Waiting}
 use Rattle.replica.specs.declared.record.Replica.{Replica}
 use Rattle.replica.specs.Record.{listedAt, shopCount, lineAt, waitingAt}
@@ -92,16 +91,6 @@ numbers-back (u ∷ us) (suc m ∷ ns) t e =
 
 -- ---- the unused places
 
-no-code : (us : List Entry) → allOf (shopLine .legal) us ≡ true → length us ≤ place us noCode
-unfolding allOf
-no-code [] h = omega arith
-no-code (u ∷ us) h =
-    let k = both (shopLine .legal u) (allOf (shopLine .legal) us) h in
-    let l = both (code 58 .legal (u .code)) (six .legal (u .number)) (k .0) in
-    let s = code-not-zeros (u .code) (l .0) in
-    let i = no-code us (k .1) in
-    omega (arith, place-later u us noCode s)
-
 pub from-zeros : (us zs : List Entry) (ns : List ℕ) (j : ℕ) → length ns ≡ length us → depsFrom (us ++ zs) (ns ++ replicate j 0) ≡ depsFrom us ns
 unfolding depsFrom
 from-zeros [] zs [] j e = go zs j
@@ -149,7 +138,7 @@ module _ (r : Register) (R : RegisterLegal r) (w : Waiting) (payer : w .payer < 
   numbers =
       let ds = depsFrom (shopsOf r) ns in
       let g : Entry → ℕ = λ l. numberFor ds (l .code) in
-      let z : g noEntry ≡ 0 = absent (shopsOf r) ns noCode (no-code (shopsOf r) (R .fits .used)) in
+      let z : g noEntry ≡ 0 = absent (shopsOf r) ns noCode (zeros-unlisted (shopsOf r) (R .fits .used)) in
       ap (λ d. needs d (r .shops)) deps
       ∙ ap (map g) (sym (take-append-drop (r .count) (r .shops)) ∙ ap (λ x. shopsOf r ++ x) (R .fits .rest))
       ∙ map-append g (shopsOf r) (replicate (16 - r .count) noEntry)

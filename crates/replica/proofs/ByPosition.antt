@@ -1,27 +1,26 @@
 -- The state rule by position: its tests pass exactly when the rule's do.
 use mathlib.Core.Path.{_≡_, refl, sym, ap, _∙_, subst}
-use mathlib.Core.Bool.{Bool, true, false, not, _&&_}
+use mathlib.Core.Bool.{Bool, true, false, not}
 use mathlib.Core.List.{List, [], _∷_}
 use Prim.Native.Nat.{ℕ, zero, suc, _+_, _-_, _≤_, _<_}
 use native.Mathlib.Omega.{arith}
 use native.Mathlib.Decide.{decLt}
-use lib.ListN.{length, take, drop, getD, replicate, List·getD-eq-default}
-use lib.Seq.{getD-take, length-take-le, take-at}
+use lib.ListN.{length, take, drop, getD, replicate, length-drop, List·getD-eq-default}
+use lib.Seq.{getD-take, getD-drop, length-take-le, take-at}
 use lib.Dec.{eqb, leb, ltb}
-use borrow.Author.Tests.{eqb-true, eqb-false, leb-true, lt-ltb, le-leb, ne-eqb, eq-eqb, not-true}
-use Rattle.texts.specs.Bytes.{allOf}
+use borrow.Author.Tests.{eqb-true, eqb-false, lt-ltb, le-leb, ne-eqb, eq-eqb, not-true}
+use Rattle.texts.specs.Bytes.{bytes, allOf}
 use Rattle.texts.specs.Answers.{Meaning, answerOf}
 use Rattle.texts.specs.Code.{code, sameCode}
 use Rattle.texts.specs.Entries.{noEntry}
-use Rattle.texts.specs.Register.{shopLine, place, shopsOf, position, listed, registerAnswer}
+use Rattle.texts.specs.Register.{place, shopsOf, position, listed, registerAnswer}
 use Rattle.texts.specs.Slip.{depLine, slipLayout, depsOf}
-use Rattle.texts.specs.Lines.{six}
 use Rattle.texts.specs.declared.entry.Entry.{Entry}
 use Rattle.texts.specs.declared.register.Register.{Register}
 use Rattle.texts.proofs.Firsts.{zero-first, no-rows}
 use Rattle.texts.proofs.LawsTexts.{same-code}
-use Rattle.texts.proofs.Steps.{both, and, nor, all-at, all-drop}
-use Rattle.texts.proofs.Legal.{slip-legal, legal-slip, RegisterLegal, register-legal}
+use Rattle.texts.proofs.Steps.{both, and, nor, all-none, all-both, all-and, all-at, at-all, all-drop}
+use Rattle.texts.proofs.Legal.{entry-legal, slip-legal, legal-slip, shop-code, RegisterLegal, register-legal}
 use Rattle.replica.specs.declared.record.Shop.{Shop}
 use Rattle.replica.specs.declared.record.Waiting.{Waiting}
 use Rattle.replica.specs.declared.record.Line.{Line}
@@ -43,19 +42,13 @@ use Rattle.replica.proofs.Kept.{NeedsKept, needs-kept, kept-needs, Slip
 
 -- each passes: all do
 from-each : {A : Type 0} (t : A → Bool) (n : ℕ) (xs : List A) (z : A) → ((k : ℕ) → n ≤ k → k < length xs → t (getD xs k z) ≡ true) → allOf t (drop n xs) ≡ true
-unfolding allOf
-from-each t zero [] z h = refl
-from-each t zero (x ∷ xs) z h = and _ _ (h 0 (omega arith) (omega arith)) (from-each t zero xs z (λ k a b. h (suc k) (omega arith) (omega arith)))
-from-each t (suc n) [] z h = refl
-from-each t (suc n) (x ∷ xs) z h = from-each t n xs z (λ k a b. h (suc k) (omega arith) (omega arith))
+from-each t n xs z h = at-all t (drop n xs) z (λ i l. ap t (getD-drop n xs i z) ∙ h (n + i) (omega arith) (omega (arith, length-drop n xs)))
 
 -- all do: each passes
 pub each-from : {A : Type 0} (t : A → Bool) (n : ℕ) (xs : List A) (z : A) → allOf t (drop n xs) ≡ true → (k : ℕ) → n ≤ k → k < length xs → t (getD xs k z) ≡ true
-unfolding allOf
-each-from t n [] z e k a b = absurd (omega arith)
-each-from t zero (x ∷ xs) z e k a b = all-at t (x ∷ xs) z k e b
-each-from t (suc n) (x ∷ xs) z e zero a b = absurd (omega arith)
-each-from t (suc n) (x ∷ xs) z e (suc k) a b = each-from t n xs z e k (omega arith) (omega arith)
+each-from t n xs z e k a b =
+    let j : n + (k - n) ≡ k = omega arith in
+    sym (ap t (getD-drop n xs (k - n) z ∙ ap (λ i. getD xs i z) j)) ∙ all-at t (drop n xs) z (k - n) e (omega (arith, length-drop n xs))
 
 -- ---- a slip's dependencies and the numbers that it asks for
 
@@ -66,13 +59,13 @@ not-some (suc m) h = absurd (h (omega arith))
 -- what holds of each dependency holds of each shop with its number, where that is not 0
 all-from : (z : Entry) (Q : Entry → Bool) (us : List Entry) (ns : List ℕ) → allOf Q (depsFrom us ns) ≡ true
     → (j : ℕ) → j < length us → 0 < getD ns j 0 → Q (record { code = getD us j z .code; number = getD ns j 0 }) ≡ true
-unfolding depsFrom allOf
+unfolding depsFrom
 all-from z Q [] ns h j l p = absurd (omega arith)
 all-from z Q (u ∷ us) [] h j l p = absurd (omega arith)
 all-from z Q (u ∷ us) (zero ∷ ns) h zero l p = absurd (omega arith)
 all-from z Q (u ∷ us) (zero ∷ ns) h (suc j) l p = all-from z Q us ns h j (omega arith) p
-all-from z Q (u ∷ us) (suc m ∷ ns) h zero l p = both (Q (record { code = u .code; number = suc m })) _ h .0
-all-from z Q (u ∷ us) (suc m ∷ ns) h (suc j) l p = all-from z Q us ns (both (Q (record { code = u .code; number = suc m })) _ h .1) j (omega arith) p
+all-from z Q (u ∷ us) (suc m ∷ ns) h zero l p = all-both Q _ _ h .0
+all-from z Q (u ∷ us) (suc m ∷ ns) h (suc j) l p = all-from z Q us ns (all-both Q _ _ h .1) j (omega arith) p
 
 -- numbers that are all 0 give none
 from-nothing : (us : List Entry) (ns : List ℕ) → ((j : ℕ) → getD ns j 0 ≡ 0) → depsFrom us ns ≡ []
@@ -94,12 +87,12 @@ from-front (suc n) (u ∷ us) (suc m ∷ ns) h = ap (λ ds. record { code = u .c
 -- dependencies in order do not name the payer
 rising-other : (r : Register) (payer least : ℕ) (ds : List Entry) → rising r payer least ds ≡ true
     → allOf (λ (d : Entry). not (eqb (position r (d .code)) payer)) ds ≡ true
-unfolding rising allOf
-rising-other r payer least [] e = refl
+unfolding rising
+rising-other r payer least [] e = all-none _
 rising-other r payer least (d ∷ ds) e =
     let a = both (leb least (position r (d .code))) _ e in
     let b = both (not (eqb (position r (d .code)) payer)) _ (a .1) in
-    and _ _ (b .0) (rising-other r payer (suc (position r (d .code))) ds (b .1))
+    all-and _ d ds (b .0) (rising-other r payer (suc (position r (d .code))) ds (b .1))
 
 -- ---- the shops of a legal register
 
@@ -122,9 +115,7 @@ module _ (r : Register) (R : RegisterLegal r) where
   is-listed p h = lt-ltb _ (length (shopsOf r)) (omega (arith, at-place p h, used))
 
   is-code : (p : ℕ) → p < r .count → code 10 .legal (listedAt r p .code) ≡ true
-  is-code p h =
-      ap (λ (l : Entry). code 10 .legal (l .code)) (sym (in-use p h))
-      ∙ both (code 58 .legal (getD (shopsOf r) p blank .code)) (six .legal (getD (shopsOf r) p blank .number)) (all-at (shopLine .legal) (shopsOf r) blank p (R .fits .used) (omega (arith, used))) .0
+  is-code p h = shop-code r (R .fits) p h blank
 
   -- two shops have two codes
   pub two-codes : (p q : ℕ) → p < r .count → q < r .count → (p ≡ q → ⊥) → sameCode (listedAt r p .code) (listedAt r q .code) ≡ false
@@ -212,10 +203,7 @@ module _ (r : Register) (R : RegisterLegal r) where
       where
         upto : (j n : ℕ) → (0 < n → depLine .legal (record { code = listedAt r j .code; number = n }) ≡ true) → (m : ℕ) → n ≡ m → m ≤ 999999
         upto j n f zero e = omega arith
-        upto j n f (suc m) e =
-            let k = both (code 58 .legal (listedAt r j .code)) (six .legal n) (f (omega arith)) in
-            let l = both (leb 0 n && leb n 999999) true (k .1) in
-            omega (arith, leb-true n 999999 (both (leb 0 n) (leb n 999999) (l .0) .1))
+        upto j n f (suc m) e = omega (arith, entry-legal (bytes "dep=") (record { code = listedAt r j .code; number = n }) (f (omega arith)) .1)
 
 -- ---- the numbers that a slip asks for, from a position on
 

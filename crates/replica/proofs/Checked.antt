@@ -20,7 +20,7 @@ use Rattle.texts.specs.declared.entry.Entry.{Entry}
 use Rattle.texts.specs.declared.register.Register.{Register}
 use Rattle.texts.specs.declared.register.RegisterRead.{RegisterRead}
 use Rattle.texts.specs.declared.slip.Slip.{Slip}
-use Rattle.texts.proofs.Steps.{both, all-used-at, all-drop}
+use Rattle.texts.proofs.Steps.{both, all-none, all-more, all-both, all-map, all-used-at, all-drop}
 use Rattle.texts.proofs.Firsts.{no-rows}
 use Rattle.texts.proofs.Values.{left-of, row-applies, row-passed}
 use Rattle.texts.proofs.LawsTexts.{same-code}
@@ -125,9 +125,8 @@ module _ {A : Type 0} {test : A → Bool} {n : ℕ} {xs : List A} {i : ℕ} (p :
   module _ (z : A) (h : i < n) (t : Bool) (e : test (getD xs i z) ≡ t) where
     -- the place at i, whose test comes to t, and those after it
     at-place : allOf test (take n xs) ≡ t && allOf test (drop (i + 1) (take n xs))
-    unfolding allOf
     at-place =
-        p .left ∙ ap (allOf test) (rest-of xs n i z (p .enough) h) ∙ ap (λ b. b && allOf test (drop (i + 1) (take n xs))) e
+        p .left ∙ ap (allOf test) (rest-of xs n i z (p .enough) h) ∙ all-more test (getD xs i z) (drop (i + 1) (take n xs)) ∙ ap (λ b. b && allOf test (drop (i + 1) (take n xs))) e
 
   -- the place passes: one more
   pub left-more : (z : A) → i < n → test (getD xs i z) ≡ true → Left test n xs (i + 1)
@@ -139,8 +138,7 @@ module _ {A : Type 0} {test : A → Bool} {n : ℕ} {xs : List A} {i : ℕ} (p :
 
   -- no place is left
   pub left-done : n ≤ i → allOf test (take n xs) ≡ true
-  unfolding allOf
-  left-done h = p .left ∙ ap (allOf test) (no-rest xs n i (p .enough) h)
+  left-done h = p .left ∙ ap (allOf test) (no-rest xs n i (p .enough) h) ∙ all-none test
 
 -- ---- the positions of a slip's codes
 
@@ -213,12 +211,6 @@ zero-rest s n m t e =
     ap not (sym e) ∙ sym (ap₂ (λ a b. a || (b || not (allOf (λ (d : Entry). ltb 0 (d .number)) (depsOf s)))) (ne-eqb _ 0 n) (ne-eqb _ 0 m))
 
 -- ---- the shop check
-
--- a test of what each is made of
-all-map : {A B : Type 0} (f : A → B) (test : B → Bool) (xs : List A) → allOf test (map f xs) ≡ allOf (λ x. test (f x)) xs
-unfolding allOf
-all-map f test [] = refl
-all-map f test (x ∷ xs) = ap (λ b. test (f x) && b) (all-map f test xs)
 
 -- the three tests: of the payer's position, of the payee's, and of the others'
 pub listed-tests : (r : Register) (s : Slip) (p : Places) → (registerAnswer r ≡ 0) × (s .count ≤ 15) × (p ≡ placesOf r s) → length (s .deps) ≡ 16
@@ -371,9 +363,8 @@ module _ (r : Register) (R : RegisterLegal r) where
   -- one dependency more
   needs-more : (d : Entry) (ds : List Entry) → allOf (depLine .legal) (d ∷ ds) ≡ true → listed r (d .code) ≡ true
       → set (needs ds (r .shops)) (at r d) (d .number) ≡ needs (d ∷ ds) (r .shops)
-  unfolding allOf
   needs-more d ds legal known =
-      let k = both (depLine .legal d) (allOf (depLine .legal) ds) legal in
+      let k = all-both (depLine .legal) d ds legal in
       let l = ltb-true (at r d) (length (shopsOf r)) known in
       let rest : List ℕ = replicate (16 - r .count) 0 in
       ap (λ ns. set ns (at r d) (d .number)) (all-needs ds (k .1))

@@ -58,7 +58,7 @@ stopped : (self : Replica) → NoneReady self (shopCount self) → ([] ≡ apply
 stopped self N = settles-only-so self self [] (Settles.stop N)
 
 -- at most eight wait for each of sixteen shops
-waits-most : (self : Replica) → lawful self ≡ true → waits self ≤ 128
+pub waits-most : (self : Replica) → lawful self ≡ true → waits self ≤ 128
 unfolding waits
 waits-most self l =
     let P = parts self l in

@@ -11,7 +11,7 @@ use Rattle.texts.specs.Bytes.{allOf}
 use Rattle.texts.specs.Answers.{Meaning, answerOf}
 use Rattle.texts.specs.Code.{sameCode, codeOf}
 use Rattle.texts.specs.Register.{listed}
-use Rattle.texts.proofs.Steps.{both, and}
+use Rattle.texts.proofs.Steps.{both, and, all-none, all-both, all-and}
 use Rattle.texts.proofs.Firsts.{first-zero}
 use Rattle.texts.proofs.Legal.{RegisterLegal, register-legal}
 use Rattle.replica.specs.declared.record.Shop.{Shop}
@@ -30,14 +30,13 @@ unfolding issuing
 cleared self p = List·getD-map unmarked (self .shops) p noShop
 
 all-cleared : (l : List Shop) → allOf zeroShop l ≡ true → allOf zeroShop (map unmarked l) ≡ true
-unfolding allOf
-all-cleared [] h = refl
+all-cleared [] h = all-none zeroShop
 all-cleared (s ∷ l) h =
-    let k = both (zeroShop s) (allOf zeroShop l) h in
+    let k = all-both zeroShop s l h in
     let a = both (eqb (s .balance) 0) _ (k .0) in
     let b = both (eqb (s .taken) 0) _ (a .1) in
     let c = both (eqb (s .applied) 0) _ (b .1) in
-    and (zeroShop (unmarked s)) _ (and _ _ (a .0) (and _ _ (b .0) (and _ _ (c .0) refl))) (all-cleared l (k .1))
+    all-and zeroShop (unmarked s) (map unmarked l) (and _ _ (a .0) (and _ _ (b .0) (and _ _ (c .0) refl))) (all-cleared l (k .1))
 
 pub record Free (self : Replica) (amount : ℕ) : Type 0 where
   pub lawful : lawful self ≡ true

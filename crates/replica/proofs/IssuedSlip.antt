@@ -8,19 +8,18 @@ use lib.ListN.{length, take, drop, getD, replicate, length-map, length-drop, tak
 use lib.Seq.{getD-take, length-take-le, take-at}
 use lib.Dec.{eqb, ltb}
 use borrow.Author.Tests.{eqb-true, eqb-false, ltb-true, ltb-false, lt-ltb, le-leb, ne-eqb}
-use Rattle.texts.specs.Bytes.{allOf}
+use Rattle.texts.specs.Bytes.{bytes, allOf}
 use Rattle.texts.specs.Answers.{Meaning, answerOf}
 use Rattle.texts.specs.Code.{code, sameCode, codeOf}
 use Rattle.texts.specs.Entries.{noEntry}
 use Rattle.texts.specs.Register.{shopLine, place, twins, shopsOf, position, listed}
 use Rattle.texts.specs.Slip.{depLine, slipLayout, depsOf}
-use Rattle.texts.specs.Lines.{six}
 use Rattle.texts.specs.declared.entry.Entry.{Entry}
 use Rattle.texts.specs.declared.register.Register.{Register}
 use Rattle.texts.proofs.Firsts.{zero-first, no-rows}
 use Rattle.texts.proofs.LawsTexts.{same-code}
-use Rattle.texts.proofs.Steps.{both, and, nor, all-zeros, all-at}
-use Rattle.texts.proofs.Legal.{code-same, legal-slip, RegisterLegal, register-legal, place-at, place-head, place-later, single-more}
+use Rattle.texts.proofs.Steps.{both, and, nor, all-none, all-both, all-and, all-zeros, all-at}
+use Rattle.texts.proofs.Legal.{code-same, entry-legal, legal-entry, legal-slip, RegisterLegal, register-legal, place-at, place-head, place-later, single-more}
 use Rattle.replica.specs.declared.record.Shop.{Shop}
 use Rattle.replica.specs.declared.record.Replica.{Replica}
 use Rattle.replica.specs.Record.{noShop, shopCount, own, shopAt}
@@ -66,11 +65,11 @@ from-up (u ∷ us) (suc m ∷ ns) t =
 -- what holds of each shop with its number, where that is not 0, holds of each dependency
 pub from-all : (z : Entry) (Q : Entry → Bool) (us : List Entry) (ns : List ℕ)
     → ((j : ℕ) → j < length us → 0 < getD ns j 0 → Q (record { code = getD us j z .code; number = getD ns j 0 }) ≡ true) → allOf Q (depsFrom us ns) ≡ true
-unfolding depsFrom allOf
-from-all z Q [] ns h = refl
-from-all z Q (u ∷ us) [] h = refl
+unfolding depsFrom
+from-all z Q [] ns h = all-none Q
+from-all z Q (u ∷ us) [] h = all-none Q
 from-all z Q (u ∷ us) (zero ∷ ns) h = from-all z Q us ns (λ j l p. h (suc j) (omega arith) p)
-from-all z Q (u ∷ us) (suc m ∷ ns) h = and _ _ (h 0 (omega arith) (omega arith)) (from-all z Q us ns (λ j l p. h (suc j) (omega arith) p))
+from-all z Q (u ∷ us) (suc m ∷ ns) h = all-and Q _ _ (h 0 (omega arith) (omega arith)) (from-all z Q us ns (λ j l p. h (suc j) (omega arith) p))
 
 from-most : (us : List Entry) (ns : List ℕ) → length (depsFrom us ns) ≤ length us
 unfolding depsFrom
@@ -90,10 +89,10 @@ from-fewer (u ∷ us) (suc m ∷ ns) (suc i) h z = omega (arith, from-fewer us n
 
 pub up-rising : (r : Register) (payer least : ℕ) (ds : List Entry) → Up (shopsOf r) least ds → allOf (λ (d : Entry). not (eqb (position r (d .code)) payer)) ds ≡ true
     → rising r payer least ds ≡ true
-unfolding Up rising allOf
+unfolding Up rising
 up-rising r payer least [] u w = refl
 up-rising r payer least (d ∷ ds) (a, b, c, t) w =
-    let k = both (not (eqb (position r (d .code)) payer)) _ w in
+    let k = all-both (λ (d : Entry). not (eqb (position r (d .code)) payer)) d ds w in
     and _ _ (le-leb least (position r (d .code)) a) (and _ _ (k .0) (up-rising r payer (suc (position r (d .code))) ds t (k .1)))
 
 -- ---- the slip
@@ -161,8 +160,8 @@ module _ (self : Replica) (P : Parts self) where
       let q : j < shopCount self = omega (arith, used) in
       let m = mark-at j q in
       let L = P .lined j q in
-      let c = both (code 58 .legal (getD us j blank .code)) (six .legal (getD us j blank .number)) (all-at (shopLine .legal) us blank j (R .fits .used) l) in
-      and _ _ (c .0) (and _ _ (and _ _ (le-leb 0 (getD (inUse self) j 0) (omega arith)) (le-leb (getD (inUse self) j 0) 999999 (omega (arith, L .mark, L .taken, L .most)))) refl))
+      let c = entry-legal (bytes "shop=") (getD us j blank) (all-at (shopLine .legal) us blank j (R .fits .used) l) in
+      legal-entry (bytes "dep=") (record { code = getD us j blank .code; number = getD (inUse self) j 0 }) (c .0) (omega (arith, L .mark, L .taken, L .most)))
 
   known : allOf (λ (d : Entry). listed (self .register) (d .code)) ds ≡ true
   known = from-all blank (λ (d : Entry). listed (self .register) (d .code)) us (inUse self) (λ j l p. lt-ltb _ (length us) (omega (arith, at-place j l)))
@@ -192,7 +191,7 @@ module _ (self : Replica) (P : Parts self) where
         let p = position (self .register) (codeOf payee) in
         let h = ltb-true p (length us) listed? in
         let c = place-at us (codeOf payee) blank h in
-        ap (code 10 .legal) (sym c) ∙ both (code 58 .legal (getD us p blank .code)) (six .legal (getD us p blank .number)) (all-at (shopLine .legal) us blank p (R .fits .used) h) .0
+        ap (code 10 .legal) (sym c) ∙ entry-legal (bytes "shop=") (getD us p blank) (all-at (shopLine .legal) us blank p (R .fits .used) h) .0
 
     pub issued-passes : answerOf (slipRows (self .register) (issuedSlip self payee amount)) ≡ 0
     unfolding issuedSlip range? shop? deps?

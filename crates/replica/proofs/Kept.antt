@@ -11,7 +11,7 @@ use borrow.Author.Tests.{eqb-true, eqb-false, ltb-true, leb-true, lt-ltb, le-ltb
 use Rattle.texts.specs.Bytes.{allOf}
 use Rattle.texts.specs.Register.{opening}
 use Rattle.texts.specs.declared.register.Register.{Register}
-use Rattle.texts.proofs.Steps.{both, and}
+use Rattle.texts.proofs.Steps.{both, and, all-none, all-more}
 use Rattle.texts.proofs.Values.{fails, skip, left-of}
 use Rattle.replica.specs.declared.record.Shop.{Shop}
 use Rattle.replica.specs.declared.record.Waiting.{Waiting}
@@ -61,8 +61,7 @@ module _ {A : Type 0} {test : A → Bool} {xs : List A} {from i : ℕ} (c : Clea
   module _ (z : A) (h : i < n) where
     -- the place at i, and those after it
     cleared-at : (t : Bool) → test (getD xs i z) ≡ t → allOf test (drop from xs) ≡ t && allOf test (drop (i + 1) xs)
-    unfolding allOf
-    cleared-at t e = c .left ∙ ap (allOf test) (left-of xs i z (omega arith)) ∙ ap (λ b. b && allOf test (drop (i + 1) xs)) e
+    cleared-at t e = c .left ∙ ap (allOf test) (left-of xs i z (omega arith)) ∙ all-more test (getD xs i z) (drop (i + 1) xs) ∙ ap (λ b. b && allOf test (drop (i + 1) xs)) e
 
     -- it passes: one more
     pub cleared-more : test (getD xs i z) ≡ true → Cleared test xs from (i + 1)
@@ -74,10 +73,9 @@ module _ {A : Type 0} {test : A → Bool} {xs : List A} {from i : ℕ} (c : Clea
 
   -- none is left
   pub cleared-done : n ≤ i → true ≡ zeroFrom n test from xs
-  unfolding allOf
   cleared-done h =
       let l : length xs ≤ i = omega arith in
-      skip _ _ true (eq-eqb (length xs) n places) (sym (c .left ∙ ap (allOf test) (drop-of-length-le xs l)))
+      skip _ _ true (eq-eqb (length xs) n places) (sym (c .left ∙ ap (allOf test) (drop-of-length-le xs l) ∙ all-none test))
 
 -- ---- the positions below n pass a test
 

@@ -8,21 +8,20 @@ use lib.ListN.{length, drop, replicate, take-append-drop}
 use lib.Seq.{getD-take, length-take-le}
 use lib.Dec.{eqb, leb, ltb}
 use borrow.Author.Tests.{eqb-false, leb-true, ltb-true, ltb-false, not-false}
-use Rattle.texts.specs.Bytes.{allOf}
-use Rattle.texts.specs.Code.{noCode, code, sameCode}
+use Rattle.texts.specs.Bytes.{bytes, allOf}
+use Rattle.texts.specs.Code.{noCode, sameCode}
 use Rattle.texts.specs.Answers.{Meaning, answerOf}
 use Rattle.texts.specs.Entries.{noEntry}
 use Rattle.texts.specs.Register.{place, among, twins, shopsOf, position, listed}
 use Rattle.texts.specs.Slip.{depLine, slipLayout, depsOf}
-use Rattle.texts.specs.Lines.{six}
 use Rattle.texts.specs.declared.code.Code.{Code}
 use Rattle.texts.specs.declared.entry.Entry.{Entry}
 use Rattle.texts.specs.declared.register.Register.{Register}
 use Rattle.texts.specs.declared.slip.Slip.{Slip}
-use Rattle.texts.proofs.Steps.{both, neither}
+use Rattle.texts.proofs.Steps.{both, neither, all-both}
 use Rattle.texts.proofs.Firsts.{first-zero}
 use Rattle.texts.proofs.LawsTexts.{same-code}
-use Rattle.texts.proofs.Legal.{zeros-not-code, slip-legal, RegisterLegal, place-at, place-head, place-later, single-more}
+use Rattle.texts.proofs.Legal.{zeros-not-code, entry-legal, slip-legal, RegisterLegal, place-at, place-head, place-later, single-more}
 use Rattle.replica.specs.Record.{listedAt}
 use Rattle.replica.specs.Slips.{numberFor, waitingOf, depsFrom, slipWith, slipOf}
 use Rattle.replica.specs.Checks.{form?, range?, shop?, self?, rising, deps?, slipRows}
@@ -78,14 +77,14 @@ Up us least (d ∷ ds) = (least ≤ place us (d .code)) × (place us (d .code) <
 
 rising-up : (r : Register) (payer least : ℕ) (ds : List Entry) → length (shopsOf r) ≡ r .count → rising r payer least ds ≡ true
     → allOf (λ (d : Entry). listed r (d .code)) ds ≡ true → allOf (λ (d : Entry). ltb 0 (d .number)) ds ≡ true → Up (shopsOf r) least ds
-unfolding rising allOf Up
+unfolding rising Up
 rising-up r payer least [] c e k p = tt
 rising-up r payer least (d ∷ ds) c e k p =
     let x = position r (d .code) in
     let a = both (leb least x) _ e in
     let b = both (not (eqb x payer)) _ (a .1) in
-    let l = both (listed r (d .code)) _ k in
-    let q = both (ltb 0 (d .number)) _ p in
+    let l = all-both (λ (d : Entry). listed r (d .code)) d ds k in
+    let q = all-both (λ (d : Entry). ltb 0 (d .number)) d ds p in
     (leb-true least x (a .0), ltb-true _ _ (l .0), ltb-true 0 _ (q .0), rising-up r payer (suc x) ds c (b .1) (l .1) (q .1))
 
 pub later : (u : Entry) (us : List Entry) (c : Code) (k : ℕ) → suc k ≤ place (u ∷ us) c → sameCode (u .code) c ≡ false
@@ -164,11 +163,11 @@ deps-back (u ∷ us) (d ∷ ds) n (a, b, c, t) =
 -- ---- unused places of the register give no dependency
 
 pub for-zero : (ds : List Entry) → allOf (depLine .legal) ds ≡ true → numberFor ds noCode ≡ 0
-unfolding numberFor allOf
+unfolding numberFor
 for-zero [] h = refl
 for-zero (d ∷ ds) h =
-    let k = both (depLine .legal d) (allOf (depLine .legal) ds) h in
-    let l = both (code 58 .legal (d .code)) (six .legal (d .number)) (k .0) in
+    let k = all-both (depLine .legal) d ds h in
+    let l = entry-legal (bytes "dep=") d (k .0) in
     let i = for-zero ds (k .1) in
     rw (zeros-not-code (d .code) (l .0), numberFor) i
 

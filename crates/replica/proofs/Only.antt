@@ -49,6 +49,10 @@ module _ {A : Type 0} where
   firsts-same (suc k) f g h = ap₂ (λ x xs. x ∷ xs) (h 0 (omega arith)) (firsts-same k (λ i. f (i + 1)) (λ i. g (i + 1)) (λ i l. h (i + 1) (omega arith)))
 
   -- the first of them and the others
+  pub firsts-none : (f : ℕ → A) → firsts 0 f ≡ []
+  unfolding firsts
+  firsts-none f = refl
+
   pub firsts-some : (k : ℕ) (f : ℕ → A) → 0 < k → firsts k f ≡ f 0 ∷ firsts (k - 1) (λ i. f (i + 1))
   unfolding firsts
   firsts-some zero f h = absurd (omega arith)

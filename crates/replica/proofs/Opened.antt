@@ -10,7 +10,7 @@ use Rattle.texts.specs.Bytes.{allOf}
 use Rattle.texts.specs.Entries.{noEntry}
 use Rattle.texts.specs.Register.{opening, registerAnswer, registerRead}
 use Rattle.texts.specs.declared.register.Register.{Register}
-use Rattle.texts.proofs.Steps.{zeros-all}
+use Rattle.texts.proofs.Steps.{all-drop, zeros-all}
 use Rattle.texts.proofs.Legal.{RegisterLegal, register-legal, read-legal}
 use Rattle.replica.specs.declared.record.Shop.{Shop}
 use Rattle.replica.specs.declared.record.Waiting.{Waiting}
@@ -31,18 +31,13 @@ map-replicate f zero x = refl
 map-replicate f (suc n) x = ap (λ l. f x ∷ l) (map-replicate f n x)
 
 pub drop-replicate : {A : Type 0} (i n : ℕ) (x : A) (t : A → Bool) → t x ≡ true → allOf t (drop i (replicate n x)) ≡ true
-unfolding allOf
-drop-replicate zero n x t e = zeros-all x t e n
-drop-replicate (suc i) zero x t e = refl
-drop-replicate (suc i) (suc n) x t e = drop-replicate i n x t e
+drop-replicate i n x t e = all-drop t i (replicate n x) (zeros-all x t e n)
 
 pub zero-waiting : zeroWaiting noWaiting ≡ true
-unfolding allOf
-zero-waiting = refl
+zero-waiting = zeros-all 0 (eqb 0) refl 16
 
 zero-line : zeroLine noLine ≡ true
-unfolding allOf
-zero-line = refl
+zero-line = zeros-all noWaiting zeroWaiting zero-waiting 8
 
 pub fresh-shop : (r : Register) (p : ℕ) → shopAt (fresh r) p ≡ firstDay (listedAt r p)
 unfolding fresh

@@ -1,19 +1,33 @@
 -- The promises on the steps, from what each step changes.
-use mathlib.Core.Path.{_≡_, refl, sym, ap, _∙_, subst}
+use mathlib.Core.Path.{_≡_, refl, sym, ap, ap₂, _∙_, subst}
 use mathlib.Core.Bool.{true, false}
 use mathlib.Core.List.{List, [], _∷_}
-use Prim.Native.Nat.{ℕ, suc, _+_, _≤_, _<_}
+use Prim.Native.Nat.{ℕ, zero, suc, _+_, _≤_, _<_}
 use native.Mathlib.Omega.{arith}
+use lib.ListN.{length}
 use borrow.Author.Tests.{eq-eqb, ne-eqb}
+use Rattle.texts.specs.Answers.{answerOf}
+use Rattle.texts.specs.Written.{over}
+use Rattle.texts.specs.Register.{registerRead}
+use Rattle.texts.specs.declared.register.RegisterRead.{RegisterRead}
+use Rattle.texts.specs.declared.slip.Slip.{Slip}
+use Rattle.texts.specs.declared.slip.SlipRead.{SlipRead}
+use Rattle.texts.proofs.Values.{fails}
+use Rattle.texts.proofs.ReadingTexts.{register-alike, slip-alike}
 use Rattle.texts.proofs.Legal.{register-legal}
+use Rattle.texts.proofs.Promises.{empty-text-refused}
 use Rattle.replica.specs.declared.record.Shop.{Shop}
 use Rattle.replica.specs.declared.record.Replica.{Replica}
-use Rattle.replica.specs.Record.{shopCount, shopAt}
+use Rattle.replica.specs.Bounds.{listRoom}
+use Rattle.replica.specs.Record.{noReplica, shopCount, shopAt}
 use Rattle.replica.specs.State.{lawful}
-use Rattle.replica.specs.Settle.{ready, apply, Settles, stop, step}
-use Rattle.replica.specs.Take.{takeAnswer, taken, takenList}
+use Rattle.replica.specs.Settle.{ready, apply, Settles, stop, step, settled, applying}
+use Rattle.replica.specs.Outcome.{did}
+use Rattle.replica.specs.Open.{fresh, opened}
+use Rattle.replica.specs.Take.{slipFrom, takeRows, takeAnswer, entered, taken, takenList}
 use Rattle.replica.specs.Issue.{issueAnswer, issued, issuedBuffer}
-use Rattle.replica.specs.Promises.{SettlesToTheEnd, times, RisesAsListed, OpensLawful, TakesLawful, IssuesLawful, AsksSame, TakeRefusalKeeps, IssueRefusalKeeps, Alike, OneToSixAlike, SevenAlike, SlipsComeBack, WaitingComesBack}
+use Rattle.replica.specs.Promises.{SettlesToTheEnd, times, RisesAsListed, CountAtMost, OpensLawful, TakesLawful, IssuesLawful, AsksSame, TakeRefusalKeeps, IssueRefusalKeeps, Alike, OneToSixAlike, SevenAlike, SlipsComeBack, WaitingComesBack}
+use Rattle.replica.specs.Promises.{RefusedGivesZeros, ZerosUnlawful, EmptyRegisterRefused, SameRegisterOpensAlike, SameSlipTakenAlike}
 use Rattle.replica.proofs.Sums.{either}
 use Rattle.replica.proofs.Quiet.{apply-count}
 use Rattle.replica.proofs.Settling.{settles-so}
@@ -22,9 +36,10 @@ use Rattle.replica.proofs.OneToOne.{one-to-one}
 use Rattle.replica.proofs.Back.{waiting-held}
 use Rattle.replica.proofs.Applied.{passed-of, payer, same, apply-lawful}
 use Rattle.replica.proofs.Opened.{opened-lawful}
-use Rattle.replica.proofs.Taken.{taken-lawful}
+use Rattle.replica.proofs.Taken.{entered-lawful, taken-settled, taken-lawful}
+use Rattle.replica.proofs.Going.{waits-most}
 use Rattle.replica.proofs.Issued.{issued-lawful, asked-same}
-use Rattle.replica.proofs.Answered.{answer-if, kept-if}
+use Rattle.replica.proofs.Answered.{outcomeIf, bytesIf, answer-if, kept-if}
 use Rattle.replica.proofs.Refusals.{answers-to-six, answer-seven}
 
 -- ---- settling
@@ -69,6 +84,19 @@ rises (step {self} {end} {p} {list} h N r t) l q =
 pub rises-as-listed : RisesAsListed
 rises-as-listed self l q h = rises (settles-so self) l q
 
+-- as many slips are applied as then wait no more
+pub count-at-most : CountAtMost
+unfolding taken
+count-at-most self text list =
+    go (takeAnswer self text list) (λ e. omega (arith, taken-settled self text list e .fewer, waits-most next (entered-lawful self text list e)))
+  where
+    next : Replica
+    next = entered self (slipFrom text)
+
+    go : (n : ℕ) → (n ≡ 0 → length (applying next) ≤ listRoom) → outcomeIf (did (length (applying next)) (settled next)) self n .count ≤ listRoom
+    go zero h = h refl
+    go (suc n) h = omega arith
+
 -- ---- the state rule is kept
 
 pub opens-lawful : OpensLawful
@@ -82,6 +110,37 @@ issues-lawful = issued-lawful
 
 pub asks-same : AsksSame
 asks-same = asked-same
+
+-- ---- a refused register
+
+pub open-answered : (text : List ℕ) → opened text .answer ≡ registerRead text .answer
+unfolding opened
+open-answered text = answer-if _ noReplica refl (registerRead text .answer)
+
+pub refused-gives-zeros : RefusedGivesZeros
+unfolding opened
+refused-gives-zeros text h = kept-if _ noReplica [] [] (registerRead text .answer) (λ e. h (open-answered text ∙ e)) .state
+
+pub zeros-unlawful : ZerosUnlawful
+zeros-unlawful = sym (fails (lawful noReplica) (λ e. omega (arith, register-legal (noReplica .register) (parts noReplica e .register) .fits .some)))
+
+pub empty-register-refused : EmptyRegisterRefused
+empty-register-refused = open-answered [] ∙ empty-text-refused .0
+
+-- ---- what a text carries
+
+pub same-register-opens-alike : SameRegisterOpensAlike
+unfolding opened
+same-register-opens-alike s t e = ap (λ (x : RegisterRead). outcomeIf (did 0 (fresh (x .register))) noReplica (x .answer)) (register-alike s t e)
+
+pub same-slip-taken-alike : SameSlipTakenAlike
+unfolding taken takenList takeRows
+same-slip-taken-alike self s t list e =
+    let read : slipFrom s ≡ slipFrom t = ap (λ (x : SlipRead). x .slip) (slip-alike s t e) in
+    let rows : takeRows self s list ≡ takeRows self t list = rw (e, read) in (
+      ap₂ (λ (x : Slip) rows. outcomeIf (did (length (applying (entered self x))) (settled (entered self x))) self (answerOf rows)) read rows,
+      ap₂ (λ (x : Slip) rows. bytesIf (over (applying (entered self x)) list) list (answerOf rows)) read rows,
+    )
 
 -- ---- refusals
 

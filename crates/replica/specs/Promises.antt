@@ -5,11 +5,13 @@ use mathlib.Core.List.{List, [], _∷_}
 use Prim.Native.Nat.{ℕ, suc, _+_, _≤_, _<_}
 use lib.Dec.{eqb}
 use lib.ListN.{length}
+use Rattle.texts.specs.Register.{registerIn}
+use Rattle.texts.specs.Slip.{slipIn}
 use Rattle.texts.specs.declared.slip.Slip.{Slip}
 use Rattle.replica.specs.declared.record.Replica.{Replica}
 use Rattle.replica.specs.declared.outcome.Outcome.{Outcome}
 use Rattle.replica.specs.Bounds.{listRoom}
-use Rattle.replica.specs.Record.{shopCount, shopAt, lineAt, waitingAt}
+use Rattle.replica.specs.Record.{noReplica, shopCount, shopAt, lineAt, waitingAt}
 use Rattle.replica.specs.Slips.{waitingOf, slipOf, slipAt}
 use Rattle.replica.specs.Checks.{passes}
 use Rattle.replica.specs.State.{lawful}
@@ -33,6 +35,10 @@ times q (p ∷ list) = elim (eqb p q) [ true ↦ suc (times q list) | false ↦ 
 -- The listed positions are the rise in applied numbers, shop by shop.
 abbrev pub RisesAsListed : Type 0
 RisesAsListed = (self : Replica) → lawful self ≡ true → (q : ℕ) → q < shopCount self → shopAt (settled self) q .applied ≡ shopAt self q .applied + times q (applying self)
+
+-- No take applies more slips than a list of 128 bytes has places.
+abbrev pub CountAtMost : Type 0
+CountAtMost = (self : Replica) (text list : List ℕ) → taken self text list .count ≤ listRoom
 
 -- Slips applied in any order, each ready at its time.
 pub data Applies : Replica → List ℕ → Replica → Type 0 where
@@ -58,6 +64,27 @@ IssuesLawful = (self : Replica) (payee : List ℕ) (amount : ℕ) (buffer : List
 -- Asking a balance changes nothing.
 abbrev pub AsksSame : Type 0
 AsksSame = (self : Replica) (code : List ℕ) → asked self code .replica ≡ self
+
+-- ---- "A refused register gives a record of zeros, which every call refuses with 13": the zeros break the state rule
+
+abbrev pub RefusedGivesZeros : Type 0
+RefusedGivesZeros = (text : List ℕ) → (opened text .answer ≡ 0 → ⊥) → opened text .replica ≡ noReplica
+
+abbrev pub ZerosUnlawful : Type 0
+ZerosUnlawful = lawful noReplica ≡ false
+
+-- The empty text is refused.
+abbrev pub EmptyRegisterRefused : Type 0
+EmptyRegisterRefused = opened [] .answer ≡ 1
+
+-- ---- a text counts by the register or slip that it carries, if any
+
+abbrev pub SameRegisterOpensAlike : Type 0
+SameRegisterOpensAlike = (s t : List ℕ) → registerIn s ≡ registerIn t → opened s ≡ opened t
+
+abbrev pub SameSlipTakenAlike : Type 0
+SameSlipTakenAlike =
+    (self : Replica) (s t list : List ℕ) → slipIn s ≡ slipIn t → (taken self s list ≡ taken self t list) × (takenList self s list ≡ takenList self t list)
 
 -- ---- "A refusal returns its number with count and balance 0; the state comes back as it went in and lent bytes keep their values."
 

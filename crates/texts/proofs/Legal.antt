@@ -9,18 +9,19 @@ use lib.Dec.{eqb, leb}
 use lib.ListN.{length, take, drop, getD, replicate, length-drop, length-append, length-replicate}
 use lib.Seq.{length-take-le, take-at, drop-at}
 use borrow.Author.Tests.{eqb-true, eq-eqb, leb-true, le-leb, not-false, ne-eqb}
-use Rattle.texts.specs.Bytes.{sameBytes, allOf, found, orZeros}
-use Rattle.texts.specs.Bounds.{codePlaces, mostShops}
+use Rattle.texts.specs.Bytes.{bytes, sameBytes, allOf, found, orZeros}
+use Rattle.texts.specs.Bounds.{codePlaces, mostShops, most}
 use Rattle.texts.specs.Code.{code, isCode, sameCode, spelled, noCode}
-use Rattle.texts.specs.Entries.{noEntry, zeroEntry}
+use Rattle.texts.specs.Lines.{six}
+use Rattle.texts.specs.Entries.{noEntry, zeroEntry, entryLine}
 use Rattle.texts.specs.Answers.{Meaning, answerOf}
-use Rattle.texts.specs.Register.{noRegister, shopsLine, shopLine, shopLines, ownLine, registerLayout, registerIn, place, twins, shopsOf, listed, registerRows, registerAnswer, registerTextAnswer, registerRead, among}
+use Rattle.texts.specs.Register.{noRegister, shopsLine, shopLine, shopLines, opening, ownLine, registerLayout, registerIn, place, twins, shopsOf, listed, registerRows, registerAnswer, registerTextAnswer, registerRead, among}
 use Rattle.texts.specs.Slip.{payerLine, slipNumberLine, payeeLine, amountLine, depsLine, depLine, slipLayout, depsOf}
 use Rattle.texts.specs.declared.code.Code.{Code}
 use Rattle.texts.specs.declared.entry.Entry.{Entry}
 use Rattle.texts.specs.declared.register.Register.{Register}
 use Rattle.texts.specs.declared.slip.Slip.{Slip}
-use Rattle.texts.proofs.Steps.{both, and, upto, all-zeros, zeros-all, bytes-same, neither}
+use Rattle.texts.proofs.Steps.{both, and, upto, all-both, all-used-at, all-zeros, zeros-all, bytes-same, neither}
 use Rattle.texts.proofs.Firsts.{first-zero}
 use Rattle.texts.proofs.LawsTexts.{same-code, zeroEntry-is, register-only}
 
@@ -46,6 +47,14 @@ code-held c e =
 -- the digits of a code fill its length
 pub spelled-length : (c : Code) → isCode c ≡ true → length (spelled c) ≡ c .len
 spelled-length c e = length-take-le (c .len) (c .digits) (code-held c e)
+
+-- ---- an entry: its code is a code, and its number has no more than six digits
+
+pub entry-legal : (name : List ℕ) (e : Entry) → entryLine name .legal e ≡ true → (isCode (e .code) ≡ true) × (e .number ≤ most)
+entry-legal name e h = let k = both (isCode (e .code)) (six .legal (e .number)) h in (k .0, upto 0 (e .number) most (k .1))
+
+pub legal-entry : (name : List ℕ) (e : Entry) → isCode (e .code) ≡ true → e .number ≤ most → entryLine name .legal e ≡ true
+legal-entry name e h k = and _ _ h (and _ _ (and _ _ (le-leb 0 (e .number) (omega arith)) (le-leb (e .number) most k)) refl)
 
 -- ---- the slip
 
@@ -128,6 +137,18 @@ register-fits r e =
       used = h .0;
       ownCode = a .1;
     }
+
+-- every shop in use has a code, and an opening of no more than six digits
+module _ (r : Register) (R : RegisterFits r) (p : ℕ) (h : p < r .count) (z : Entry) where
+  shop-fits : (isCode (getD (r .shops) p z .code) ≡ true) × (opening (getD (r .shops) p z) ≤ most)
+  shop-fits = entry-legal (bytes "shop=") (getD (r .shops) p z) (all-used-at (shopLine .legal) (r .shops) z (r .count) p (R .used) (omega (arith, R .most, R .places)) h)
+
+  pub shop-code : isCode (getD (r .shops) p z .code) ≡ true
+  shop-code = shop-fits .0
+
+  -- "Opening credit 0 to 999,999."
+  pub opening-most : opening (getD (r .shops) p z) ≤ most
+  opening-most = shop-fits .1
 
 -- a legal register fits, has no twins, and lists its own shop
 pub record RegisterLegal (r : Register) : Type 0 where
@@ -219,3 +240,11 @@ unfolding sameCode
 zeros-not-code c e =
     let m = code-some c e in
     ap (λ b. b && sameBytes (noCode .digits) (c .digits)) (ne-eqb 0 (c .len) (λ i. omega arith))
+
+-- which no shop has
+pub zeros-unlisted : (shops : List Entry) → allOf (shopLine .legal) shops ≡ true → length shops ≤ place shops noCode
+zeros-unlisted [] h = omega arith
+zeros-unlisted (s ∷ shops) h =
+    let k = all-both (shopLine .legal) s shops h in
+    let e = code-not-zeros (s .code) (entry-legal (bytes "shop=") s (k .0) .0) in
+    omega (arith, place-later s shops noCode e, zeros-unlisted shops (k .1))

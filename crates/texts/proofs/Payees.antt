@@ -25,11 +25,11 @@ use Rattle.texts.specs.declared.register.Register.{Register}
 use Rattle.texts.specs.declared.register.RegisterRead.{RegisterRead}
 use Rattle.texts.specs.declared.slip.Slip.{Slip}
 use Rattle.texts.specs.declared.slip.SlipRead.{SlipRead}
-use Rattle.texts.proofs.Steps.{both, and, all-used-at}
+use Rattle.texts.proofs.Steps.{both, and}
 use Rattle.texts.proofs.LawsLeaf.{digits-length}
 use Rattle.texts.proofs.LawsGroup.{joined-append}
 use Rattle.texts.proofs.LawsTexts.{register-only, slip-only}
-use Rattle.texts.proofs.Legal.{SlipLegal, slip-legal, register-fits, RegisterLegal, register-legal, read-legal, place-at, place-within, code-held, spelled-length}
+use Rattle.texts.proofs.Legal.{SlipLegal, slip-legal, register-fits, shop-code, RegisterLegal, register-legal, read-legal, place-at, place-within, code-held, spelled-length}
 use Rattle.texts.proofs.Putting.{joined-more}
 use Rattle.texts.proofs.Reading.{none-if}
 
@@ -103,20 +103,18 @@ unfolding joined
 started-none shops = record { passed = refl; small = omega arith }
 
 module _ (r : Register) (fits : registerLayout .legal r ≡ true) (i : ℕ) (h : i < r .count) (z : Entry) where
-  shop-code : isCode (getD (r .shops) i z .code) ≡ true
-  shop-code =
-      let R = register-fits r fits in
-      both _ _ (all-used-at (shopLine .legal) (r .shops) z (r .count) i (R .used) (omega (arith, R .most, R .places)) h) .0
+  coded : isCode (getD (r .shops) i z .code) ≡ true
+  coded = shop-code r (register-fits r fits) i h z
 
   pub shop-few : getD (r .shops) i z .code .len ≤ 8
-  shop-few = let c = getD (r .shops) i z .code in omega (arith, code-held c shop-code, eqb-true (length (c .digits)) 8 (both _ _ shop-code .0))
+  shop-few = let c = getD (r .shops) i z .code in omega (arith, code-held c coded, eqb-true (length (c .digits)) 8 (both _ _ coded .0))
 
   pub started-more : (at : ℕ) → Started (r .shops) at i → Started (r .shops) (at + 5 + getD (r .shops) i z .code .len + 8) (i + 1)
   started-more at q =
       let R = register-fits r fits in
       let s = getD (r .shops) i z in
       let e = ap length (joined-more shopLine z (r .shops) i (omega (arith, R .most, R .places))) ∙ length-append (joined shopLine (take i (r .shops))) (shopLine .text s) in
-      let l = entry-length (bytes "shop=") s shop-code in
+      let l = entry-length (bytes "shop=") s coded in
       let few = shop-few in
       record { passed = omega (arith, q .passed); small = omega (arith, q .small) }
 

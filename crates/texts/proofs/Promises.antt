@@ -9,14 +9,15 @@ use lib.ListN.{length, take, drop}
 use lib.Seq.{take-at}
 use borrow.Author.Tests.{eq-eqb, ne-eqb, not-false}
 use Rattle.texts.specs.Bounds.{registerRoom}
-use Rattle.texts.specs.Layout.{Layout}
+use Rattle.texts.specs.Layout.{Layout, past, whole}
 use Rattle.texts.specs.Answers.{first, answerOf, form, room}
 use Rattle.texts.specs.Written.{over, answered, buffered}
-use Rattle.texts.specs.Register.{noRegister, registerLayout, listed, ownRows, registerAnswer, registerRead, registerWriteAnswer}
+use Rattle.texts.specs.Register.{noRegister, registerLayout, registerIn, listed, ownRows, registerAnswer, registerTextAnswer, registerRead, registerWriteAnswer}
 use Rattle.texts.specs.Slip.{slipLayout, slipIn, slipRead, slipWriteAnswer}
 use Rattle.texts.specs.Lawful.{Lawful}
 use Rattle.texts.specs.Payee.{Part, payeePart}
-use Rattle.texts.specs.Promises.{OneToOne, RegistersOneToOne, SlipsOneToOne, RegisterReadsBack, SlipReadsBack, RegisterWritesBack, SlipWritesBack, RegisterRefusalKeeps, SlipRefusalKeeps, RegisterAtMost, SlipAtMost, PayeeExact, ListedInRegister, RefusedInSlip}
+use Rattle.texts.specs.Promises.{OneToOne, RegistersOneToOne, SlipsOneToOne, RegisterReadsBack, SlipReadsBack, RegisterWritesBack, SlipWritesBack, RegisterRefusalKeeps, SlipRefusalKeeps, PayeeExact, ListedInRegister, RefusedInSlip}
+use Rattle.texts.specs.Promises.{RegisterAtMost, SlipAtMost, WhyAtMost, EmptyTextRefused}
 use Rattle.texts.specs.declared.pen.Written.{Written}
 use Rattle.texts.specs.declared.register.Register.{Register}
 use Rattle.texts.specs.declared.slip.Slip.{Slip}
@@ -28,6 +29,7 @@ use Rattle.texts.proofs.Legal.{read-legal}
 use Rattle.texts.proofs.Lengths.{register-most, slip-most}
 use Rattle.texts.proofs.Payees.{slip-carried, register-part, slip-part, no-payee, payee-bytes}
 use Rattle.texts.proofs.ReadingTexts.{register-answer, slip-answer}
+use Rattle.texts.proofs.Table.{why-most}
 use Rattle.texts.proofs.WritingTexts.{refused, there, slip-zero}
 
 one-to-one : {A : Type 0} (L : Layout A) → Lawful L → OneToOne L
@@ -92,6 +94,13 @@ register-at-most = register-most
 
 pub slip-at-most : SlipAtMost
 slip-at-most = slip-most
+
+pub why-at-most : WhyAtMost
+why-at-most = why-most
+
+pub empty-text-refused : EmptyTextRefused
+unfolding registerRead registerTextAnswer registerIn registerLayout slipRead slipIn slipLayout whole past first
+empty-text-refused = (refl, refl)
 
 pub payee-exact : PayeeExact
 payee-exact = payee-bytes

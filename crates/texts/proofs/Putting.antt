@@ -1,18 +1,18 @@
 -- Writing the used places of an array, one line each: the loop of a register's shops and of a slip's dependencies.
-use mathlib.Core.Path.{_≡_, refl, ap, _∙_, subst}
+use mathlib.Core.Path.{_≡_, ap, _∙_, subst}
 use mathlib.Core.Bool.{true}
 use mathlib.Core.List.{List, [], _∷_, _++_, append-nil}
 use Prim.Native.Nat.{ℕ, suc, _+_, _≤_, _<_}
 use native.Mathlib.Omega.{arith}
 use native.Mathlib.Numerals.{add-one}
 use lib.ListN.{length, take, drop, getD}
-use lib.Seq.{paste-zero, take-suc, split-at, take-take, getD-take, length-take-le}
+use lib.Seq.{take-suc, split-at, take-take, getD-take, length-take-le}
 use Rattle.texts.specs.Bytes.{allOf}
 use Rattle.texts.specs.Layout.{Layout, joined}
 use Rattle.texts.specs.Inside.{Room, Wrote}
 use Rattle.texts.proofs.Steps.{all-used-at}
 use Rattle.texts.proofs.LawsGroup.{joined-append}
-use Rattle.texts.proofs.Writing.{room-front, room-back, wrote-then}
+use Rattle.texts.proofs.Writing.{room-front, room-back, wrote-nothing, wrote-then}
 
 -- The lines of the first i of n values are written into d from `at` on, which has given b; `next` is past them.
 pub record Putting {A : Type 0} (L : Layout A) (d : List ℕ) (at : ℕ) (xs : List A) (n : ℕ) (b : List ℕ) (next i : ℕ) : Type 0 where
@@ -47,7 +47,7 @@ putting-none {d = d} {at} l legal room = record {
   places = l;
   legal = legal;
   room = room;
-  wrote = record { fits = omega arith; past = omega arith; size = refl; holds = paste-zero d at [] };
+  wrote = wrote-nothing d at (omega (arith, room .fits));
 }
 
 module _ {A : Type 0} {L : Layout A} (z : A) {d : List ℕ} {at : ℕ} {xs : List A} {n : ℕ} {b : List ℕ} {next i : ℕ} (q : Putting L d at xs n b next i) where

@@ -47,6 +47,10 @@ pub slip-answer : (text : List ℕ) (o : Option Slip) → slipIn text ≡ o → 
 unfolding slipRead
 slip-answer text o e = ap (λ o. record { answer = answerOf ((form, not (found o)) ∷ []); slip = orZeros noSlip o }) (sym e)
 
+-- texts that carry the same slip, or none, read alike
+pub slip-alike : (s t : List ℕ) → slipIn s ≡ slipIn t → slipRead s ≡ slipRead t
+slip-alike s t e = sym (slip-answer s (slipIn t) e) ∙ slip-answer t (slipIn t) refl
+
 module _ {s : List ℕ} {c e : Cursor} {v : Slip} (P : Reads slipLayout s c v e) (start : (c .at ≡ 0) × (c .ok ≡ true)) (t : Bool) (tested : t ≡ e .ok && eqb (e .at) (length s)) where
   pub slip-there : t ≡ true → _≡_ {A = SlipRead} (record { answer = 0; slip = v }) (slipRead s)
   unfolding slipIn first
@@ -69,6 +73,10 @@ unfolding registerRead registerTextAnswer
 register-answer text o e =
     ap (λ o. record { answer = answerOf (registerRows (found o) (orZeros noRegister o)); register = kept-if (answerOf (registerRows (found o) (orZeros noRegister o))) (orZeros noRegister o) })
     (sym e)
+
+-- texts that carry the same register, or none, read alike
+pub register-alike : (s t : List ℕ) → registerIn s ≡ registerIn t → registerRead s ≡ registerRead t
+register-alike s t e = sym (register-answer s (registerIn t) e) ∙ register-answer t (registerIn t) refl
 
 module _ {s : List ℕ} {c e : Cursor} {v : Register} (P : Reads registerLayout s c v e) (start : (c .at ≡ 0) × (c .ok ≡ true)) (t : Bool) (tested : t ≡ e .ok && eqb (e .at) (length s)) where
   -- it was read: what is left to ask is twins and the own shop

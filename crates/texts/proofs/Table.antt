@@ -2,11 +2,15 @@
 use mathlib.Core.Path.{_≡_, refl, sym, ap, _∙_}
 use mathlib.Core.Bool.{Bool, true}
 use mathlib.Core.List.{List, [], _∷_}
-use Prim.Native.Nat.{ℕ, zero, suc, _+_, _≤_, _<_}
+use Prim.Native.Nat.{ℕ, zero, suc, _+_, _-_, _≤_, _<_}
 use native.Mathlib.Omega.{arith}
-use lib.ListN.{getD, replicate, List·getD-eq-default}
+use lib.Dec.{leb}
+use lib.ListN.{length, take, getD, replicate, length-append, List·getD-eq-default}
+use lib.Seq.{take-at}
+use borrow.Author.Tests.{leb-true}
 use Rattle.texts.specs.Bytes.{sameBytes, allOf}
 use Rattle.texts.specs.Answers.{Meaning, ok, form, shop, oneself, range, deps, number, full, busy, short, usedup, room, twin, state, numberOf, wordOf, meanings, whys, why, OneTable, nameOf}
+use Rattle.texts.specs.declared.answers.Name.{Name}
 use Rattle.texts.proofs.Steps.{both, same-bytes}
 
 -- the function's values from i on, n of them
@@ -66,3 +70,22 @@ table-right = refl
 
 pub one-table : OneTable
 one-table m = same-bytes (why (numberOf m)) (wordOf m) (every (λ m. sameBytes (why (numberOf m)) (wordOf m)) table-right m)
+
+-- ---- lengths, and a name as a value
+
+-- no name is longer than its eight places
+few : allOf (λ (w : List ℕ). leb (length w) 8) whys ≡ true
+unfolding allOf
+few = refl
+
+pub why-most : (answer : ℕ) → length (why answer) ≤ 8
+why-most answer = leb-true (length (why answer)) 8 (anywhere (λ (w : List ℕ). leb (length w) 8) whys [] answer few refl)
+
+-- the bytes in use of a name are its word
+pub name-fits : (n : Name) (answer : ℕ) → n ≡ nameOf answer → n .len ≤ length (n .bytes)
+name-fits n answer e =
+    let w = why answer in
+    omega (arith, ap (λ (n : Name). n .len) e, ap (λ (n : Name). length (n .bytes)) e, length-append w (replicate (8 - length w) 0))
+
+pub name-spelled : (n : Name) (answer : ℕ) → n ≡ nameOf answer → take (n .len) (n .bytes) ≡ why answer
+name-spelled n answer e = ap (λ (n : Name). take (n .len) (n .bytes)) e ∙ take-at (why answer) _ (length (why answer)) refl

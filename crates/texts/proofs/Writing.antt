@@ -3,11 +3,12 @@ use mathlib.Core.Path.{_≡_, refl, sym, ap, ap₂, _∙_, subst}
 use mathlib.Core.List.{List, [], _∷_, _++_, append-assoc}
 use Prim.Native.Nat.{ℕ, suc, _+_, _-_, _/_, _%_, _≤_, _<_}
 use native.Mathlib.Omega.{arith}
-use native.Mathlib.Nat.{add-suc, add-zero}
+use native.Mathlib.Nat.{add-suc, add-zero, zero-add}
 use native.Mathlib.Numerals.{add-one}
 use lib.ListN.{length, take, drop, getD, set, length-append, length-set, take-append-drop, drop-of-length-le}
 use lib.Seq.{paste, paste-zero, paste-suc, take-length, take-at, drop-append-add, drop-drop, length-take-le, take-all, getD-take, getD-at, take-take, set-append-left, take-set-lt, take-suc-set, drop-cons}
 use Rattle.texts.specs.Leaf.{digits}
+use Rattle.texts.specs.Written.{over}
 use Rattle.texts.specs.Inside.{Room, Wrote}
 use Rattle.texts.proofs.LawsLeaf.{digits-length}
 
@@ -37,6 +38,14 @@ wrote-then {d} {d₁} {d₂} {a} {a₁} {a₂} {t} {u} w v =
       size = v .size ∙ w .size;
       holds = v .holds ∙ ap₂ (λ f b. f ++ u ++ b) front back ∙ ap (λ f. f ++ drop (a + length (t ++ u)) d) (append-assoc (take a d) t u);
     }
+
+-- Nothing is written.
+pub wrote-nothing : (d : List ℕ) (at : ℕ) → at ≤ length d → Wrote d at [] d at
+wrote-nothing d at h = record { fits = omega arith; past = omega arith; size = refl; holds = paste-zero d at [] }
+
+-- What is written from the front on stands over the buffer.
+pub wrote-over : {d d′ : List ℕ} {n : ℕ} (t : List ℕ) → Wrote d 0 t d′ n → (n ≡ length t) × (d′ ≡ over t d)
+wrote-over {d} t w = (w .past ∙ zero-add (length t), w .holds ∙ ap (λ k. t ++ drop k d) (zero-add (length t)))
 
 -- ---- a word, from its first byte to its last
 

@@ -1,12 +1,11 @@
 -- Writing a value to a lent buffer: what is answered, and what the buffer then holds.
 use mathlib.Core.Path.{_≡_, refl, sym, ap, _∙_}
 use mathlib.Core.Bool.{Bool, true, false, not}
-use mathlib.Core.List.{List, [], _∷_, _++_}
+use mathlib.Core.List.{List, [], _∷_}
 use Prim.Native.Nat.{ℕ, zero, suc, _≤_, _<_}
 use native.Mathlib.Omega.{arith}
-use native.Mathlib.Nat.{zero-add}
 use lib.Dec.{ltb}
-use lib.ListN.{length, drop}
+use lib.ListN.{length}
 use borrow.Author.Tests.{lt-ltb, le-ltb, not-false}
 use Rattle.texts.specs.Bounds.{registerRoom, slipRoom}
 use Rattle.texts.specs.Answers.{Row, answerOf, form, room}
@@ -20,6 +19,7 @@ use Rattle.texts.specs.declared.slip.Slip.{Slip}
 use Rattle.texts.proofs.Firsts.{first-zero, no-rows, applies, passes-by}
 use Rattle.texts.proofs.Values.{row-applies, row-passed}
 use Rattle.texts.proofs.Lengths.{register-most, slip-most}
+use Rattle.texts.proofs.Writing.{wrote-over}
 
 -- ---- any answer
 
@@ -34,8 +34,8 @@ module _ (answer : ℕ) (text d : List ℕ) where
   pub done : {d′ : List ℕ} {n : ℕ} → answer ≡ 0 → Wrote d 0 text d′ n → (_≡_ {A = Written} (record { answer = 0; count = n }) (answered answer text)) × (d′ ≡ buffered answer text d)
   unfolding answered buffered
   done {d′} {n} e w =
-      let k : n ≡ length text = omega (arith, w .past) in
-      (ap (λ c. record { answer = 0; count = c }) k ∙ ap (λ a. answered a text) (sym e), w .holds ∙ ap (λ m. text ++ drop m d) (zero-add (length text)) ∙ ap (λ a. buffered a text d) (sym e))
+      let o = wrote-over text w in
+      (ap (λ c. record { answer = 0; count = c }) (o .0) ∙ ap (λ a. answered a text) (sym e), o .1 ∙ ap (λ a. buffered a text d) (sym e))
 
 -- ---- a buffer of at least so many bytes: 11 first, then the value's own rows
 

@@ -2,11 +2,12 @@
 use mathlib.Core.Path.{_≡_}
 use mathlib.Core.Bool.{true, false}
 use mathlib.Core.Option.{some}
-use mathlib.Core.List.{List}
+use mathlib.Core.List.{List, []}
 use Prim.Native.Nat.{ℕ, _≤_}
 use lib.ListN.{length, take}
 use Rattle.texts.specs.Bounds.{registerRoom, slipRoom}
 use Rattle.texts.specs.Layout.{Layout, whole}
+use Rattle.texts.specs.Answers.{why}
 use Rattle.texts.specs.Written.{over}
 use Rattle.texts.specs.Register.{registerLayout, listed, registerRead, registerWriteAnswer, registerWritten, registerBuffer}
 use Rattle.texts.specs.Slip.{slipLayout, slipIn, slipRead, slipWriteAnswer, slipWritten, slipBuffer}
@@ -70,6 +71,15 @@ RegisterAtMost = (r : Register) → registerLayout .legal r ≡ true → length 
 
 abbrev pub SlipAtMost : Type 0
 SlipAtMost = (s : Slip) → slipLayout .legal s ≡ true → length (slipLayout .text s) ≤ slipRoom
+
+-- "fourteen eight-byte names"
+abbrev pub WhyAtMost : Type 0
+WhyAtMost = (answer : ℕ) → length (why answer) ≤ 8
+
+-- ---- the empty text: "An empty slip chunk gets answer 1.", and so does an empty register
+
+abbrev pub EmptyTextRefused : Type 0
+EmptyTextRefused = (registerRead [] .answer ≡ 1) × (slipRead [] .answer ≡ 1)
 
 -- ---- "the exact bytes of the payee's code", whichever text they are a part of
 

@@ -1,9 +1,10 @@
 -- The number, then the line of the name: the name in the table is the `why` of the answer.
 use borrow.Author.Needs.{needs}
 use Rattle.texts.specs.Bytes.{bytes}
+use Rattle.texts.proofs.Table.{name-fits}
 use Rattle.texts.proofs.Writing.{room-back, wrote-then}
 use Rattle.desk.specs.Printed.{numbered}
-use Rattle.desk.proofs.Reporting.{put-first, name-fits, spelled-length, named-room, named-wrote}
+use Rattle.desk.proofs.Reporting.{put-first, spelled-length, named-room, named-wrote}
 use Rattle.desk.proofs.report.put_answer.Statement.{statement}
 use Rattle.desk.proofs.report.put_answer.Tie as tie
 

@@ -3,7 +3,7 @@ use borrow.Author.Needs.{needs}
 use mathlib.Core.Path.{refl, sym, _∙_}
 use mathlib.Core.Logic.{⊎-elim}
 use native.Mathlib.Omega.{arith}
-use Rattle.desk.proofs.Reporting.{wrote-nothing}
+use Rattle.texts.proofs.Writing.{wrote-nothing}
 use Rattle.desk.proofs.Feeding.{slips-left, last-stopped, last-empty, last-register, last-slip, renamed}
 use Rattle.desk.proofs.desk.Desk.close_last.Statement.{statement}
 use Rattle.desk.proofs.desk.Desk.close_last.Tie as tie
