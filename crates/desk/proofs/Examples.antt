@@ -1,4 +1,4 @@
--- Document 01's own example, and where chunks begin and end: tried on the definitions.
+-- The paper's own example, and where chunks begin and end: tried on the definitions.
 use mathlib.Core.Path.{_≡_, refl}
 use mathlib.Core.Bool.{Bool, true, false, _&&_}
 use mathlib.Core.List.{List, [], _∷_, _++_}
@@ -19,7 +19,7 @@ use Rattle.replica.specs.Settle.{ready, apply, scan, settle, order, waits}
 use Rattle.replica.specs.Open.{fresh, opened}
 use Rattle.replica.specs.Take.{takeRows, entered, taken}
 use Rattle.replica.specs.Trials.{example, A, B}
-use Rattle.desk.specs.Chunks.{atEnd, cut, chunks, registerIn, slipsIn}
+use Rattle.desk.specs.Chunks.{atEnd, cut, chunks, registerChunk, slipChunks}
 use Rattle.desk.specs.Printed.{joined, shopsPrinted, slipsPrinted, afterRegister, printed}
 
 -- ---- chunks
@@ -88,5 +88,5 @@ outputs =
     []
 
 outputs-hold : allTrue outputs ≡ true
-unfolding outputs ownInput ownOutput shopAlone example A B printed afterRegister slipsPrinted shopsPrinted joined firsts cut atEnd registerIn slipsIn taken takeRows entered opened fresh ready apply scan settle order waits lineKept numberedOn paidByShop slipsPass lawful range? shop? rising deps? passes numberFor waitingOf depsFrom slipOf sumTo every slipLayout slipIn slipRead register.registerLayout register.registerIn register.place register.twins register.registerAnswer register.registerTextAnswer register.registerRead first sameCode digits oneMore numeral run layout.past layout.joined layout.several layout.whole sameBytes allOf allTrue
+unfolding outputs ownInput ownOutput shopAlone example A B printed afterRegister slipsPrinted shopsPrinted joined firsts cut atEnd registerChunk slipChunks taken takeRows entered opened fresh ready apply scan settle order waits lineKept numberedOn paidByShop slipsPass lawful range? shop? rising deps? passes numberFor waitingOf depsFrom slipOf sumTo every slipLayout slipIn slipRead register.registerLayout register.registerIn register.place register.twins register.registerAnswer register.registerTextAnswer register.registerRead first sameCode digits oneMore numeral run layout.past layout.joined layout.several layout.whole sameBytes allOf allTrue
 outputs-hold = refl

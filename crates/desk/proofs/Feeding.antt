@@ -43,29 +43,29 @@ opened-nothing : opened [] .replica ≡ noReplica
 opened-nothing = refused-gives-zeros [] (λ e. omega (arith, empty-register-refused))
 
 pub new-is : (o : Outcome) → o ≡ opened []
-    → record { replica = o .replica; bytes = replicate mostKept 0; len = 0; fresh = true; opened = false; refused = false; slips = 0 } ≡ newDesk
+    → record { replica = o .replica; bytes = replicate mostKept 0; len = 0; begins = true; opened = false; refused = false; slips = 0 } ≡ newDesk
 new-is o e =
-    ap (λ (x : Replica). record { replica = x; bytes = replicate mostKept 0; len = 0; fresh = true; opened = false; refused = false; slips = 0 })
+    ap (λ (x : Replica). record { replica = x; bytes = replicate mostKept 0; len = 0; begins = true; opened = false; refused = false; slips = 0 })
     (ap (λ (o : Outcome). o .replica) e ∙ opened-nothing)
 
 -- ---- a chunk ends
 
 module _ (d : Desk) (text : List ℕ) (o : Outcome) (same : text ≡ kept d) where
   pub opens-is : o ≡ opened text
-      → record { replica = o .replica; bytes = d .bytes; len = 0; fresh = d .fresh; opened = true; refused = not (eqb (o .answer) 0); slips = d .slips } ≡ opens d
+      → record { replica = o .replica; bytes = d .bytes; len = 0; begins = d .begins; opened = true; refused = not (eqb (o .answer) 0); slips = d .slips } ≡ opens d
   unfolding opens
   opens-is e =
-      ap (λ (o : Outcome). record { replica = o .replica; bytes = d .bytes; len = 0; fresh = d .fresh; opened = true; refused = not (eqb (o .answer) 0); slips = d .slips })
+      ap (λ (o : Outcome). record { replica = o .replica; bytes = d .bytes; len = 0; begins = d .begins; opened = true; refused = not (eqb (o .answer) 0); slips = d .slips })
       (e ∙ ap opened same)
 
   pub opens-said : {p p′ : List ℕ} {at n : ℕ} → o ≡ opened text → Wrote p at (registerLine (o .answer)) p′ n → Wrote p at (registerLine (opened (kept d) .answer)) p′ n
   opens-said {p} {p′} {at} {n} e w = subst (λ (o : Outcome). Wrote p at (registerLine (o .answer)) p′ n) (e ∙ ap opened same) w
 
   pub takes-is : o ≡ taken (d .replica) text lent
-      → record { replica = o .replica; bytes = d .bytes; len = 0; fresh = d .fresh; opened = d .opened; refused = d .refused; slips = d .slips + 1 } ≡ takes d
+      → record { replica = o .replica; bytes = d .bytes; len = 0; begins = d .begins; opened = d .opened; refused = d .refused; slips = d .slips + 1 } ≡ takes d
   unfolding takes
   takes-is e =
-      ap (λ (o : Outcome). record { replica = o .replica; bytes = d .bytes; len = 0; fresh = d .fresh; opened = d .opened; refused = d .refused; slips = d .slips + 1 })
+      ap (λ (o : Outcome). record { replica = o .replica; bytes = d .bytes; len = 0; begins = d .begins; opened = d .opened; refused = d .refused; slips = d .slips + 1 })
       (e ∙ ap (λ t. taken (d .replica) t lent) same)
 
   pub takes-said : {p p′ : List ℕ} {at n : ℕ} → o ≡ taken (d .replica) text lent → Wrote p at (slipLines (d .slips + 1) (o .answer) (o .count)) p′ n
@@ -138,11 +138,11 @@ module _ {p p₁ : List ℕ} {n₁ : ℕ} (d e : Desk) (done : (e ≡ last d) ×
 -- ---- the bytes of a window
 
 -- a desk that has not stopped: a chunk ends, or the byte is kept
-step-ends : (d : Desk) (b : ℕ) → stopped d ≡ false → emptyLine (d .fresh) b ≡ true → (ends d ≡ step d b) × (endSaid d ≡ stepSaid d b)
+step-ends : (d : Desk) (b : ℕ) → stopped d ≡ false → emptyLine (d .begins) b ≡ true → (ends d ≡ step d b) × (endSaid d ≡ stepSaid d b)
 unfolding step stepSaid
 step-ends d b e t = rw (e, t, step, stepSaid) (refl, refl)
 
-step-keeps : (d : Desk) (b : ℕ) → stopped d ≡ false → emptyLine (d .fresh) b ≡ false → (keeps d b ≡ step d b) × ([] ≡ stepSaid d b)
+step-keeps : (d : Desk) (b : ℕ) → stopped d ≡ false → emptyLine (d .begins) b ≡ false → (keeps d b ≡ step d b) × ([] ≡ stepSaid d b)
 unfolding step stepSaid
 step-keeps d b e t = rw (e, t, step, stepSaid) (refl, refl)
 
@@ -156,10 +156,10 @@ other-byte false b e = refl
 
 -- a byte that is kept, where there is room for it and where there is none
 abbrev pub withByte : Desk → ℕ → Desk
-withByte d b = record { replica = d .replica; bytes = set (d .bytes) (d .len) b; len = d .len + 1; fresh = d .fresh; opened = d .opened; refused = d .refused; slips = d .slips }
+withByte d b = record { replica = d .replica; bytes = set (d .bytes) (d .len) b; len = d .len + 1; begins = d .begins; opened = d .opened; refused = d .refused; slips = d .slips }
 
 abbrev pub begun : Desk → ℕ → Desk
-begun d b = record { replica = d .replica; bytes = d .bytes; len = d .len; fresh = eqb b 10; opened = d .opened; refused = d .refused; slips = d .slips }
+begun d b = record { replica = d .replica; bytes = d .bytes; len = d .len; begins = eqb b 10; opened = d .opened; refused = d .refused; slips = d .slips }
 
 abbrev keptAs : Desk → ℕ → Bool → Desk
 keptAs d b t =
@@ -167,7 +167,7 @@ keptAs d b t =
       replica = d .replica;
       bytes = elim t [ true ↦ set (d .bytes) (d .len) b | false ↦ d .bytes ];
       len = elim t [ true ↦ d .len + 1 | false ↦ d .len ];
-      fresh = eqb b 10;
+      begins = eqb b 10;
       opened = d .opened;
       refused = d .refused;
       slips = d .slips;
@@ -227,13 +227,13 @@ module _ {d₀ : Desk} {w : List ℕ} {m : ℕ} {p₀ p : List ℕ} {d : Desk} {
         few = omega (arith, F .few);
       }
 
-  pub feeding-ended : {p′ : List ℕ} {d′ : Desk} {at′ : ℕ} → i < m → stopped d ≡ false → emptyLine (d .fresh) (getD w i 0) ≡ true
+  pub feeding-ended : {p′ : List ℕ} {d′ : Desk} {at′ : ℕ} → i < m → stopped d ≡ false → emptyLine (d .begins) (getD w i 0) ≡ true
       → (d′ ≡ ends d) × Wrote p at (endSaid d) p′ at′ → Feeding d₀ w m p₀ p′ d′ at′ (i + 1)
   feeding-ended h e t v =
       let r = renamed (step-ends d (getD w i 0) e t) v in
       feeding-more h (r .0) (r .1) (omega (arith, v .1 .past, end-said-most d))
 
-  pub feeding-kept : {d′ : Desk} → i < m → stopped d ≡ false → emptyLine (d .fresh) (getD w i 0) ≡ false
+  pub feeding-kept : {d′ : Desk} → i < m → stopped d ≡ false → emptyLine (d .begins) (getD w i 0) ≡ false
       → d′ ≡ keeps d (getD w i 0) → Feeding d₀ w m p₀ p d′ at (i + 1)
   feeding-kept h e t v =
       let r = renamed (step-keeps d (getD w i 0) e t) (v, wrote-nothing p at (omega (arith, F .wrote .fits, F .wrote .past, F .wrote .size))) in

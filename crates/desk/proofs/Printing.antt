@@ -11,11 +11,11 @@ use borrow.Author.Tests.{lt-leb, ne-eqb}
 use Rattle.replica.specs.declared.record.Replica.{Replica}
 use Rattle.replica.specs.declared.outcome.Outcome.{Outcome}
 use Rattle.replica.specs.Record.{noReplica}
-use Rattle.replica.specs.Open.{opened}
+use Rattle.replica.specs.Open.{opened, begins}
 use Rattle.replica.proofs.Promises.{opens-lawful, refused-gives-zeros, zeros-unlawful}
 use Rattle.desk.specs.declared.desk.Desk.{Desk}
 use Rattle.desk.specs.Bounds.{mostSlips, mostKept}
-use Rattle.desk.specs.Chunks.{atEnd, cut, registerIn, slipsIn}
+use Rattle.desk.specs.Chunks.{atEnd, cut, registerChunk, slipChunks}
 use Rattle.desk.specs.Printed.{registerLine, slipsPrinted, afterRegister, printed}
 use Rattle.desk.specs.Desk.{newDesk, stopped, kept, opens, ends, endSaid, keeps}
 use Rattle.desk.proofs.Long.{opened-kept}
@@ -34,7 +34,7 @@ record Reading (d : Desk) (c : List ℕ) : Type 0 where
 
 -- what is printed of the chunks
 abbrev chunksPrinted : List (List ℕ) → List ℕ
-chunksPrinted cs = afterRegister (opened (registerIn cs)) (slipsIn cs)
+chunksPrinted cs = afterRegister (opened (registerChunk cs)) (slipChunks cs)
 
 module _ (d : Desk) (c : List ℕ) (R : Reading d c) where
   goes-on : stopped d ≡ false
@@ -89,8 +89,8 @@ module _ (d : Desk) (c : List ℕ) (R : Reading d c) where
           let no = refuses (λ z. omega arith) in
           rw (e, afterRegister) (ap₂ (λ l r. l ++ r) (says-answer ∙ ap registerLine e) (none (no .0) (no .1)))
 
-  register-closing : output d [] ≡ chunksPrinted (cut c (d .fresh) [])
-  unfolding cut atEnd registerIn slipsIn
+  register-closing : output d [] ≡ chunksPrinted (cut c (d .begins) [])
+  unfolding cut atEnd registerChunk slipChunks
   register-closing =
       end-output d
       ∙ closing-unended d (simp (goes-on, R .opened))
@@ -101,15 +101,15 @@ module _ (d : Desk) (c : List ℕ) (R : Reading d c) where
       go [] = ap (afterRegister (opened [])) (take-nil mostSlips)
       go (b ∷ c) = refl
 
-  byte : (b : ℕ) (w : List ℕ) → output (keeps d b) w ≡ chunksPrinted (cut (c ++ (b ∷ [])) (keeps d b .fresh) w)
-      → output d (b ∷ w) ≡ chunksPrinted (cut c (d .fresh) (b ∷ w))
-  unfolding registerIn slipsIn
+  byte : (b : ℕ) (w : List ℕ) → output (keeps d b) w ≡ chunksPrinted (cut (c ++ (b ∷ [])) (keeps d b .begins) w)
+      → output d (b ∷ w) ≡ chunksPrinted (cut c (d .begins) (b ∷ w))
+  unfolding registerChunk slipChunks
   byte b w on =
       byte-output d c b w chunksPrinted goes-on
-      (register-ends (cut [] (ends d .fresh) w) (output (ends d) w) (slips-output (ends d) [] w) (λ s e. stopped-output (ends d) w s ∙ closing-stopped (ends d) s ∙ e))
+      (register-ends (cut [] (ends d .begins) w) (output (ends d) w) (slips-output (ends d) [] w) (λ s e. stopped-output (ends d) w s ∙ closing-stopped (ends d) s ∙ e))
       on
 
-register-output : (d : Desk) (c w : List ℕ) → Reading d c → output d w ≡ chunksPrinted (cut c (d .fresh) w)
+register-output : (d : Desk) (c w : List ℕ) → Reading d c → output d w ≡ chunksPrinted (cut c (d .begins) w)
 register-output d c [] R = register-closing d c R
 register-output d c (b ∷ w) R = byte d c R b w (register-output (keeps d b) (c ++ (b ∷ [])) w (keeps-on d c R b))
 

@@ -80,16 +80,16 @@ module _ (d : Desk) (c : List ℕ) (T : Taking d c) where
       ∙ shops-there (d .replica) (T .lawful)
       ∙ sym (full-left d cs (leb-true mostSlips (d .slips) e))
 
-  byte : (b : ℕ) (w : List ℕ) → ((x : Desk) (k : List ℕ) → Taking x k → output x w ≡ slipsLeft x (cut k (x .fresh) w))
-      → output d (b ∷ w) ≡ slipsLeft d (cut c (d .fresh) (b ∷ w))
+  byte : (b : ℕ) (w : List ℕ) → ((x : Desk) (k : List ℕ) → Taking x k → output x w ≡ slipsLeft x (cut k (x .begins) w))
+      → output d (b ∷ w) ≡ slipsLeft d (cut c (d .begins) (b ∷ w))
   unfolding keeps
   byte b w rest = go (leb mostSlips (d .slips)) refl
     where
-      go : (t : Bool) → leb mostSlips (d .slips) ≡ t → output d (b ∷ w) ≡ slipsLeft d (cut c (d .fresh) (b ∷ w))
-      go true e = full-output (b ∷ w) (cut c (d .fresh) (b ∷ w)) e
+      go : (t : Bool) → leb mostSlips (d .slips) ≡ t → output d (b ∷ w) ≡ slipsLeft d (cut c (d .begins) (b ∷ w))
+      go true e = full-output (b ∷ w) (cut c (d .begins) (b ∷ w)) e
       go false e =
           byte-output d c b w (slipsLeft d) (stops-full ∙ e)
-          (ap (λ l. endSaid d ++ l) (rest (ends d) [] takes-on) ∙ sym (slip-ends (cut [] (ends d .fresh) w) (leb-false mostSlips (d .slips) e)))
+          (ap (λ l. endSaid d ++ l) (rest (ends d) [] takes-on) ∙ sym (slip-ends (cut [] (ends d .begins) w) (leb-false mostSlips (d .slips) e)))
           (rest (keeps d b) (c ++ (b ∷ [])) (keeps-on b))
 
 -- ---- the end of the input
@@ -108,7 +108,7 @@ last-chunk d b c T e =
     ∙ ap (λ l. endSaid d ++ l) (shops-there (ends d .replica) (takes-on d (b ∷ c) T .lawful) ∙ sym (none-left (ends d)))
     ∙ sym (slip-ends d (b ∷ c) T [] (leb-false mostSlips (d .slips) e))
 
-slips-closing : (d : Desk) (c : List ℕ) → Taking d c → output d [] ≡ slipsLeft d (cut c (d .fresh) [])
+slips-closing : (d : Desk) (c : List ℕ) → Taking d c → output d [] ≡ slipsLeft d (cut c (d .begins) [])
 unfolding cut atEnd
 slips-closing d c T = go c T (leb mostSlips (d .slips)) refl
   where
@@ -117,6 +117,6 @@ slips-closing d c T = go c T (leb mostSlips (d .slips)) refl
     go [] T false e = end-output d ∙ nothing-more d T e
     go (b ∷ c) T false e = end-output d ∙ last-chunk d b c T e
 
-pub slips-output : (d : Desk) (c w : List ℕ) → Taking d c → output d w ≡ slipsLeft d (cut c (d .fresh) w)
+pub slips-output : (d : Desk) (c w : List ℕ) → Taking d c → output d w ≡ slipsLeft d (cut c (d .begins) w)
 slips-output d c [] T = slips-closing d c T
 slips-output d c (b ∷ w) T = byte d c T b w (λ x k X. slips-output x k w X)

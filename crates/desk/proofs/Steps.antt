@@ -43,29 +43,29 @@ pub end-output : (d : Desk) → output d [] ≡ closing d
 unfolding said fed
 end-output d = refl
 
-ends-fresh : (d : Desk) → ends d .fresh ≡ d .fresh
+ends-begins : (d : Desk) → ends d .begins ≡ d .begins
 unfolding ends opens takes
-ends-fresh d = go (d .opened) refl
+ends-begins d = go (d .opened) refl
   where
-    go : (t : Bool) → d .opened ≡ t → ends d .fresh ≡ d .fresh
+    go : (t : Bool) → d .opened ≡ t → ends d .begins ≡ d .begins
     go true e = rw (e, ends)
     go false e = rw (e, ends)
 
 -- it ends the chunk c or goes on with it, as where the input is cut
 pub byte-output : (d : Desk) (c : List ℕ) (b : ℕ) (w : List ℕ) (prints : List (List ℕ) → List ℕ) → stopped d ≡ false
-    → endSaid d ++ output (ends d) w ≡ prints (c ∷ cut [] (ends d .fresh) w)
-    → output (keeps d b) w ≡ prints (cut (c ++ (b ∷ [])) (keeps d b .fresh) w)
-    → output d (b ∷ w) ≡ prints (cut c (d .fresh) (b ∷ w))
+    → endSaid d ++ output (ends d) w ≡ prints (c ∷ cut [] (ends d .begins) w)
+    → output (keeps d b) w ≡ prints (cut (c ++ (b ∷ [])) (keeps d b .begins) w)
+    → output d (b ∷ w) ≡ prints (cut c (d .begins) (b ∷ w))
 unfolding said fed step stepSaid cut keeps
-byte-output d c b w prints going ended on = go (emptyLine (d .fresh) b) refl
+byte-output d c b w prints going ended on = go (emptyLine (d .begins) b) refl
   where
-    go : (t : Bool) → emptyLine (d .fresh) b ≡ t → output d (b ∷ w) ≡ prints (cut c (d .fresh) (b ∷ w))
+    go : (t : Bool) → emptyLine (d .begins) b ≡ t → output d (b ∷ w) ≡ prints (cut c (d .begins) (b ∷ w))
     go true e =
-        let f : ends d .fresh ≡ true = ends-fresh d ∙ both (d .fresh) (eqb b 10) e .0 in
-        let i : prints (c ∷ cut [] (ends d .fresh) w) ≡ prints (cut c (d .fresh) (b ∷ w)) = rw (e, cut) (ap (λ t. prints (c ∷ cut [] t w)) f) in
+        let f : ends d .begins ≡ true = ends-begins d ∙ both (d .begins) (eqb b 10) e .0 in
+        let i : prints (c ∷ cut [] (ends d .begins) w) ≡ prints (cut c (d .begins) (b ∷ w)) = rw (e, cut) (ap (λ t. prints (c ∷ cut [] t w)) f) in
         rw (going, e, step, stepSaid) (append-assoc (endSaid d) (said (ends d) w) (closing (fed (ends d) w)) ∙ ended ∙ i)
     go false e =
-        let i : prints (cut (c ++ (b ∷ [])) (eqb b 10) w) ≡ prints (cut c (d .fresh) (b ∷ w)) = rw (e, cut) in
+        let i : prints (cut (c ++ (b ∷ [])) (eqb b 10) w) ≡ prints (cut c (d .begins) (b ∷ w)) = rw (e, cut) in
         rw (going, e, step, stepSaid) (on ∙ i)
 
 -- ---- a desk that has stopped

@@ -25,10 +25,10 @@ abbrev pub chunks : List ℕ → List (List ℕ)
 chunks input = cut [] true input
 
 -- "The first chunk is the register (with no input it is empty), the rest are slips; after 999,999 of them reading stops as at the end of input."
-unfoldable pub registerIn : List (List ℕ) → List ℕ
-registerIn [] = []
-registerIn (c ∷ cs) = c
+unfoldable pub registerChunk : List (List ℕ) → List ℕ
+registerChunk [] = []
+registerChunk (c ∷ cs) = c
 
-unfoldable pub slipsIn : List (List ℕ) → List (List ℕ)
-slipsIn [] = []
-slipsIn (c ∷ cs) = take mostSlips cs
+unfoldable pub slipChunks : List (List ℕ) → List (List ℕ)
+slipChunks [] = []
+slipChunks (c ∷ cs) = take mostSlips cs

@@ -20,7 +20,7 @@ newDesk =
       replica = noReplica;
       bytes = replicate mostKept 0;
       len = 0;
-      fresh = true;
+      begins = true;
       opened = false;
       refused = false;
       slips = 0;
@@ -40,13 +40,13 @@ kept d = take (d .len) (d .bytes)
 unfoldable pub opens : Desk → Desk
 opens d =
     let o = opened (kept d) in
-    record { replica = o .replica; bytes = d .bytes; len = 0; fresh = d .fresh; opened = true; refused = not (eqb (o .answer) 0); slips = d .slips }
+    record { replica = o .replica; bytes = d .bytes; len = 0; begins = d .begins; opened = true; refused = not (eqb (o .answer) 0); slips = d .slips }
 
 -- The others are slips.
 unfoldable pub takes : Desk → Desk
 takes d =
     let o = taken (d .replica) (kept d) lent in
-    record { replica = o .replica; bytes = d .bytes; len = 0; fresh = d .fresh; opened = d .opened; refused = d .refused; slips = d .slips + 1 }
+    record { replica = o .replica; bytes = d .bytes; len = 0; begins = d .begins; opened = d .opened; refused = d .refused; slips = d .slips + 1 }
 
 unfoldable pub ends : Desk → Desk
 ends d = elim (d .opened) [ true ↦ takes d | false ↦ opens d ]
@@ -65,17 +65,17 @@ keeps d b =
       replica = d .replica;
       bytes = elim (ltb (d .len) mostKept) [ true ↦ set (d .bytes) (d .len) b | false ↦ d .bytes ];
       len = elim (ltb (d .len) mostKept) [ true ↦ d .len + 1 | false ↦ d .len ];
-      fresh = eqb b 10;
+      begins = eqb b 10;
       opened = d .opened;
       refused = d .refused;
       slips = d .slips;
     }
 
 unfoldable pub step : Desk → ℕ → Desk
-step d b = elim (stopped d) [ true ↦ d | false ↦ elim (emptyLine (d .fresh) b) [ true ↦ ends d | false ↦ keeps d b ] ]
+step d b = elim (stopped d) [ true ↦ d | false ↦ elim (emptyLine (d .begins) b) [ true ↦ ends d | false ↦ keeps d b ] ]
 
 unfoldable pub stepSaid : Desk → ℕ → List ℕ
-stepSaid d b = elim (stopped d) [ true ↦ [] | false ↦ elim (emptyLine (d .fresh) b) [ true ↦ endSaid d | false ↦ [] ] ]
+stepSaid d b = elim (stopped d) [ true ↦ [] | false ↦ elim (emptyLine (d .begins) b) [ true ↦ endSaid d | false ↦ [] ] ]
 
 -- ---- the bytes of a window
 

@@ -14,7 +14,7 @@ use Rattle.replica.specs.Record.{listedAt, shopCount, shopAt, lineAt}
 use Rattle.replica.specs.Slips.{firsts}
 use Rattle.replica.specs.Open.{opened}
 use Rattle.replica.specs.Take.{taken}
-use Rattle.desk.specs.Chunks.{chunks, registerIn, slipsIn}
+use Rattle.desk.specs.Chunks.{chunks, registerChunk, slipChunks}
 
 -- ---- lines
 
@@ -71,4 +71,4 @@ unfoldable pub afterRegister : Outcome → List (List ℕ) → List ℕ
 afterRegister o cs = registerLine (o .answer) ++ elim (o .answer) [ zero ↦ slipsPrinted (o .replica) 1 cs | suc n ↦ [] ]
 
 unfoldable pub printed : List ℕ → List ℕ
-printed input = afterRegister (opened (registerIn (chunks input))) (slipsIn (chunks input))
+printed input = afterRegister (opened (registerChunk (chunks input))) (slipChunks (chunks input))

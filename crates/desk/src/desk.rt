@@ -28,7 +28,7 @@ pub struct Desk {
     pub replica: Replica,
     pub bytes: [u8; KEPT],
     pub len: usize,
-    pub fresh: bool,
+    pub begins: bool,
     pub opened: bool,
     pub refused: bool,
     pub slips: u32,
@@ -72,7 +72,7 @@ impl Desk {
             replica,
             bytes: [0u8; KEPT],
             len: 0,
-            fresh: true,
+            begins: true,
             opened: false,
             refused: false,
             slips: 0,
@@ -149,7 +149,7 @@ impl Desk {
                 break;
             }
             let b = window[i];
-            if self.fresh && b == b'\n' {
+            if self.begins && b == b'\n' {
                 let fed = self.close_chunk(page, at);
                 self = fed.desk;
                 at = fed.count;
@@ -159,7 +159,7 @@ impl Desk {
                     self.bytes[k] = b;
                     self.len = k + 1;
                 }
-                self.fresh = b == b'\n';
+                self.begins = b == b'\n';
             }
             i += 1;
         }

@@ -1,43 +1,38 @@
 -- What a terminal applied is a legal history of the asset transfer type: each statement of specs/AssetTransfer.
 use mathlib.Core.Path.{_≡_, refl, sym, ap, _∙_, subst}
-use mathlib.Core.Bool.{Bool, true, false, not}
+use mathlib.Core.Bool.{Bool, true, false}
 use mathlib.Core.List.{List, [], _∷_, _++_, map, append-assoc, append-nil}
 use Prim.Native.Nat.{ℕ, zero, suc, _<_}
 use native.Mathlib.Omega.{arith}
 use lib.Dec.{eqb}
-use borrow.Author.Tests.{eq-eqb, ne-eqb, not-false}
-use Rattle.texts.specs.Answers.{Meaning, answerOf}
+use borrow.Author.Tests.{eq-eqb, ne-eqb}
 use Rattle.texts.specs.Code.{codeOf}
-use Rattle.texts.specs.Register.{opening, registerRead, position, listed}
+use Rattle.texts.specs.Register.{opening, registerRead, position}
 use Rattle.texts.specs.declared.register.Register.{Register}
 use Rattle.texts.specs.declared.slip.Slip.{Slip}
-use Rattle.texts.proofs.Firsts.{first-zero}
-use Rattle.texts.proofs.Legal.{register-legal}
 use Rattle.replica.specs.declared.record.Shop.{Shop}
 use Rattle.replica.specs.declared.record.Waiting.{Waiting}
 use Rattle.replica.specs.declared.record.Replica.{Replica}
 use Rattle.replica.specs.Record.{listedAt, shopCount, shopAt}
 use Rattle.replica.specs.Slips.{waitingOf, slipAt}
-use Rattle.replica.specs.Checks.{passes}
 use Rattle.replica.specs.State.{lawful}
 use Rattle.replica.specs.Settle.{firstWaiting, ready, apply, Settles, stop, step, applying}
 use Rattle.replica.specs.Open.{fresh, opened}
 use Rattle.replica.specs.Take.{slipFrom, takeAnswer, entered, taken}
 use Rattle.replica.specs.Issue.{issueAnswer, issued}
-use Rattle.replica.specs.Balance.{balanceRows, asked}
+use Rattle.replica.specs.Balance.{asked}
 use Rattle.replica.specs.Calls.{Call, take, issue, balance, call, after, end, Lines, noSlips, noted, appliedAlong, applied, appliedFrom}
 use Rattle.replica.specs.Demand.{start, now}
 use Rattle.replica.specs.AssetTransfer.{Same, transfer, read, said, told, Step, succeeds, reads, Legal, nothing, next, Owns, Applied, along, inCall, inCalls, ofShop, transferred, balancesOf, AppliedIsLegal, AppliedByShop, AskingIsReading}
 use Rattle.replica.proofs.Sums.{either}
 use Rattle.replica.proofs.Parts.{parts}
-use Rattle.replica.proofs.OneToOne as listing
 use Rattle.replica.proofs.Back.{map-append, waiting-held}
 use Rattle.replica.proofs.Shops.{is-out}
-use Rattle.replica.proofs.Applied.{passed-of, ready-funds, some, below, other, payer, payee, apply-lawful}
+use Rattle.replica.proofs.Applied.{ready-funds, some, below, other, payer, payee, apply-lawful}
 use Rattle.replica.proofs.Settling.{settles-so}
 use Rattle.replica.proofs.Opened.{fresh-shop, opened-lawful}
-use Rattle.replica.proofs.Taken.{alone, accepted, entered-lawful, taken-lawful}
-use Rattle.replica.proofs.Issued.{cleared, issued-lawful, asked-same}
+use Rattle.replica.proofs.Taken.{entered-alone, entered-lawful, taken-lawful}
+use Rattle.replica.proofs.Issued.{cleared, issued-lawful, asked-same, asked-told}
 use Rattle.replica.proofs.Promises.{take-answered}
 use Rattle.replica.proofs.Keeping.{took-settled, took-same, issued-issuing, issued-same}
 use Rattle.replica.proofs.Runs.{applied-along, applied-none, call-register, run-register}
@@ -56,9 +51,9 @@ module _ (self : Replica) (text list : List ℕ) where
 
 -- ---- legal
 
--- applying the first slip of p, as a transfer of x by a, out of its own account, to b
+-- applying the first slip in the line of p, as a transfer of x by p, out of account a to b
 abbrev Moves : ℕ → Replica → ℕ → ℕ → ℕ → ℕ → Type 0
-Moves n self p a b x = Step n Owns (balancesOf self) a (transfer a b x) (balancesOf (apply self p)) (said true)
+Moves n self p a b x = Step n Owns (balancesOf self) p (transfer a b x) (balancesOf (apply self p)) (said true)
 
 applies : (r : Register) (self : Replica) (p : ℕ) → self .register ≡ r → lawful self ≡ true → p < shopCount self → ready self p ≡ true
     → let s = slipAt self p 0 in
@@ -75,8 +70,8 @@ applies r self p same l h e =
     (ap (λ (x : Shop). x .balance) (payer self p P h e))
     (ap (λ (x : Shop). x .balance) (payee self p P h e))
     (λ c _ d j. ap (λ (x : Shop). x .balance) (is-out self p (other self p P h e) c d j)) in
-    let by-payer : Moves n self p (w .payer) (w .payee) (w .amount) = subst (λ (a : ℕ). Moves n self p a (w .payee) (w .amount)) (sym (P .lined p h .payers 0 there)) moves in
-    let of-slip = subst (λ (x : Waiting). Moves n self p (x .payer) (x .payee) (x .amount)) (sym (waiting-held self l p 0 h there)) by-payer in
+    let paid-by-shop : Moves n self p (w .payer) (w .payee) (w .amount) = subst (λ (a : ℕ). Moves n self p a (w .payee) (w .amount)) (sym (P .lined p h .payers 0 there)) moves in
+    let of-slip = subst (λ (x : Waiting). Moves n self p (x .payer) (x .payee) (x .amount)) (sym (waiting-held self l p 0 h there)) paid-by-shop in
     subst (λ (x : Register). Moves (x .count) self p (position x (s .payer)) (position x (s .payee)) (s .amount)) same of-slip
 
 -- a call gives back a lawful state
@@ -98,10 +93,7 @@ module _ (r : Register) where
 
   -- entering leaves the balances as they were
   enters : (self : Replica) (text list : List ℕ) → takeAnswer self text list ≡ 0 → Same (r .count) (balancesOf self) (balancesOf (entered self (slipFrom text)))
-  enters self text list e c _ =
-      let A = accepted self text list e in
-      let q : passes (self .register) (A .slip) ≡ true = A .passes in
-      rw (A .given) (alone self (A .slip) (parts self (A .lawful)) (passed-of (self .register) (A .slip) q) q (A .number) (A .room) (λ x. x .balance) (λ _. refl) c)
+  enters self text list e c _ = entered-alone self text list e (λ x. x .balance) (λ _. refl) c
 
   call-legal : (self : Replica) (c : Call) → lawful self ≡ true → self .register ≡ r → History self (inCall self c) (after self c)
   unfolding call
@@ -195,18 +187,10 @@ Reads n self asker a x = Step n Owns (balancesOf self) asker (read a) (balancesO
 
 asked-reads : (r : Register) (self : Replica) (code : List ℕ) (asker : ℕ) → self .register ≡ r → asked self code .answer ≡ 0
     → Reads (r .count) self asker (position r (codeOf code)) (asked self code .balance)
-unfolding asked balanceRows
-asked-reads r self code asker same e = go (answerOf (balanceRows self code)) refl
-  where
-    go : (n : ℕ) → answerOf (balanceRows self code) ≡ n → Reads (r .count) self asker (position r (codeOf code)) (asked self code .balance)
-    go zero i =
-        let c13 = first-zero Meaning.state (not (lawful self)) _ (omega arith) i in
-        let c2 = first-zero Meaning.shop (not (listed (self .register) (codeOf code))) _ (omega arith) (c13 .1) in
-        let R = register-legal (self .register) (parts self (not-false _ (c13 .0)) .register) in
-        let l = listing.below (self .register) (codeOf code) R (not-false _ (c2 .0)) in
-        let one : Reads (shopCount self) self asker (position (self .register) (codeOf code)) (asked self code .balance) = rw (i, asked) (reads l (λ c _. refl)) in
-        subst (λ (x : Register). Reads (x .count) self asker (position x (codeOf code)) (asked self code .balance)) same one
-    go (suc n) i = let z : suc n ≡ 0 = rw (i, asked) at e in absurd (omega arith)
+asked-reads r self code asker same e =
+    let T = asked-told self code e in
+    let one = subst (Reads (shopCount self) self asker (position (self .register) (codeOf code))) (sym (T .balance)) (reads (T .inside) (λ c _. refl)) in
+    subst (λ (x : Register). Reads (x .count) self asker (position x (codeOf code)) (asked self code .balance)) same one
 
 pub asking-is-reading : AskingIsReading
 asking-is-reading t code asker e = asked-reads (start t .register) (now t) code asker (run-register (start t) (t .calls)) e

@@ -21,8 +21,8 @@ use Rattle.texts.specs.declared.register.Register.{Register}
 use Rattle.texts.specs.declared.register.RegisterRead.{RegisterRead}
 use Rattle.texts.specs.declared.slip.Slip.{Slip}
 use Rattle.texts.proofs.Steps.{both, all-none, all-more, all-both, all-map, all-used-at, all-drop}
-use Rattle.texts.proofs.Firsts.{no-rows}
-use Rattle.texts.proofs.Values.{left-of, row-applies, row-passed}
+use Rattle.texts.proofs.Firsts.{no-rows, applies, passes-by}
+use Rattle.texts.proofs.Values.{left-of}
 use Rattle.texts.proofs.LawsTexts.{same-code}
 use Rattle.texts.proofs.Legal.{slip-legal, RegisterLegal, register-legal, place-head, place-later, single-more, place-within}
 use Rattle.replica.specs.declared.checks.Places.{Places}
@@ -291,21 +291,21 @@ rises r s p (few, e) places h = sym h ∙ ap (risen (p .payer) 0) (used-places r
 -- z: a zero
 module _ (r : Register) (s : Slip) (z : Bool) (ez : z ≡ range? s) where
   pub answer-range : z ≡ true → 4 ≡ answerOf (checkRows r s)
-  answer-range y = row-applies Meaning.range _ _ (sym ez ∙ y)
+  answer-range y = sym (applies Meaning.range _ _ (sym ez ∙ y))
 
   -- l: all listed
   module _ (nz : z ≡ false) (l : Bool) (el : l ≡ not (shop? r s)) where
     pub answer-shop : not l ≡ true → 2 ≡ answerOf (checkRows r s)
-    answer-shop y = row-passed Meaning.range _ _ 2 (sym ez ∙ nz) (row-applies Meaning.shop _ _ (not-false _ (sym el ∙ not-true l y)))
+    answer-shop y = sym (passes-by Meaning.range _ _ (sym ez ∙ nz) ∙ applies Meaning.shop _ _ (not-false _ (sym el ∙ not-true l y)))
 
     -- m: the payee is the payer
     module _ (nl : not l ≡ false) (m : Bool) (em : m ≡ self? s) where
       -- the rows before the last two do not apply
       later-rows : (n : ℕ) → n ≡ answerOf ((Meaning.oneself, self? s) ∷ (Meaning.deps, deps? r s) ∷ []) → n ≡ answerOf (checkRows r s)
-      later-rows n h = row-passed Meaning.range _ _ n (sym ez ∙ nz) (row-passed Meaning.shop _ _ n (not-true _ (sym el ∙ not-false l nl)) h)
+      later-rows n h = h ∙ sym (passes-by Meaning.range _ _ (sym ez ∙ nz) ∙ passes-by Meaning.shop _ _ (not-true _ (sym el ∙ not-false l nl)))
 
       pub answer-self : m ≡ true → 3 ≡ answerOf (checkRows r s)
-      answer-self y = later-rows 3 (row-applies Meaning.oneself _ _ (sym em ∙ y))
+      answer-self y = later-rows 3 (sym (applies Meaning.oneself _ _ (sym em ∙ y)))
 
       -- d: the dependencies rise
       module _ (nm : m ≡ false) (d : Bool) (p : Places) (e : p ≡ placesOf r s) (ed : d ≡ rising r (p .payer) 0 (depsOf s)) where
@@ -316,11 +316,11 @@ module _ (r : Register) (s : Slip) (z : Bool) (ez : z ≡ range? s) where
 
         pub answer-fine : d ≡ true → 0 ≡ answerOf (checkRows r s)
         unfolding deps?
-        answer-fine y = later-rows 0 (row-passed Meaning.oneself _ _ 0 (sym em ∙ nm) (row-passed Meaning.deps _ _ 0 (ap not (sym rises-from ∙ y)) (sym no-rows)))
+        answer-fine y = later-rows 0 (sym (passes-by Meaning.oneself _ _ (sym em ∙ nm) ∙ passes-by Meaning.deps _ _ (ap not (sym rises-from ∙ y)) ∙ no-rows))
 
         pub answer-deps : d ≡ false → 5 ≡ answerOf (checkRows r s)
         unfolding deps?
-        answer-deps y = later-rows 5 (row-passed Meaning.oneself _ _ 5 (sym em ∙ nm) (row-applies Meaning.deps _ _ (ap not (sym rises-from ∙ y))))
+        answer-deps y = later-rows 5 (sym (passes-by Meaning.oneself _ _ (sym em ∙ nm) ∙ applies Meaning.deps _ _ (ap not (sym rises-from ∙ y))))
 
 -- ---- the numbers of a waiting slip
 

@@ -1,4 +1,4 @@
--- The promise to the woman at shop 071 is kept: each statement of specs/Demand.
+-- "Neither of you": whichever order the slips came in, the terminals agree. Each statement of specs/Demand.
 use mathlib.Core.Path.{_≡_, sym, ap, ap₂, _∙_, subst, subst₂}
 use mathlib.Core.Bool.{true}
 use mathlib.Core.List.{List, [], _++_, append-nil}

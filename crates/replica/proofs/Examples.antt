@@ -13,7 +13,6 @@ use Rattle.texts.specs.Payee.{shown, payeeOf, payeePart}
 use Rattle.texts.specs.Register.{registerLayout, registerIn, place, twins, registerAnswer, registerTextAnswer, registerRead}
 use Rattle.texts.specs.Slip.{slipLayout, slipIn, slipRead}
 use Rattle.replica.specs.declared.record.Shop.{Shop}
-use Rattle.replica.specs.declared.record.Line.{Line}
 use Rattle.replica.specs.declared.record.Replica.{Replica}
 use Rattle.replica.specs.declared.outcome.Outcome.{Outcome}
 use Rattle.replica.specs.Record.{shopCount, adjust, sumTo, every, noReplica}
@@ -25,15 +24,10 @@ use Rattle.replica.specs.Open.{fresh, opened}
 use Rattle.replica.specs.Take.{takeRows, entered, taken, takenList}
 use Rattle.replica.specs.Issue.{issueRows, issuedSlip, issuing, issued, issuedBuffer}
 use Rattle.replica.specs.Balance.{balanceRows, asked}
+use Rattle.replica.specs.Trials.{concat, example, A, B}
 
 registerOwn : List ℕ → List ℕ
 registerOwn own = bytes "shops=03\nshop=71:000500\nshop=071:000000\nshop=0071:000100\nown=" ++ own ++ bytes "\n"
-
-A : List ℕ
-A = bytes "payer=071\nnumber=000001\npayee=0071\namount=000200\ndeps=01\ndep=71:000001\n"
-
-B : List ℕ
-B = bytes "payer=71\nnumber=000001\npayee=071\namount=000300\ndeps=00\n"
 
 big : ℕ → List ℕ
 unfolding digits
@@ -50,22 +44,12 @@ answers : Replica → List (List ℕ) → List ℕ
 answers self [] = []
 answers self (t ∷ ts) = let o = taken self t (replicate 128 0) in o .answer ∷ answers (o .replica) ts
 
-concat : List (List ℕ) → List ℕ
-concat [] = []
-concat (l ∷ ls) = l ++ concat ls
-
-turned : Replica
-turned = opened (bytes "shops=03\nshop=0071:000100\nshop=071:000000\nshop=71:000500\nown=71\n") .replica
-
 -- 071 is the own shop: 71 has paid it, so its next slip depends on 71's first
 own071 : Replica
 own071 = after (opens (bytes "071")) (B ∷ [])
 
 lentBuffer : List ℕ
 lentBuffer = replicate 366 7
-
-register71 : List ℕ
-register71 = registerOwn (bytes "71")
 
 -- slip 3 names no shop of the register, slip 4 is no slip
 shownTo : List (List ℕ)
@@ -104,8 +88,8 @@ tried =
     bytes "shops=01\nshop=71:000500\nown=71\n" ∷ []))
     (1 ∷ 1 ∷ 2 ∷ 12 ∷ 1 ∷ 1 ∷ 1 ∷ 1 ∷ 0 ∷ []) ∷
     -- the payee's part: its bytes, and where it starts
-    sameBytes (concat (map (λ (t : List ℕ). shown (payeePart register71 t) register71 t) shownTo)) (bytes "007107199") ∷
-    sameBytes (map (λ (t : List ℕ). payeePart register71 t .start) shownTo) (45 ∷ 29 ∷ 28 ∷ 0 ∷ []) ∷
+    sameBytes (concat (map (λ (t : List ℕ). shown (payeePart example t) example t) shownTo)) (bytes "007107199") ∷
+    sameBytes (map (λ (t : List ℕ). payeePart example t .start) shownTo) (45 ∷ 29 ∷ 28 ∷ 0 ∷ []) ∷
     []
 
 -- ---- rows of our own, beside the paper's
@@ -115,9 +99,6 @@ balances self = take (shopCount self) (map (λ (s : Shop). s .balance) (self .sh
 
 marks : Replica → List ℕ
 marks self = take (shopCount self) (map (λ (s : Shop). s .mark) (self .shops))
-
-waiting : Replica → List ℕ
-waiting self = take (shopCount self) (map (λ (l : Line). l .count) (self .lines))
 
 -- 71 pays 501: its slip number 1 waits
 stuck : Replica
@@ -145,12 +126,6 @@ issuedText071 = bytes "payer=071\nnumber=000001\npayee=0071\namount=000100\ndeps
 
 ours : List Bool
 ours =
-    -- trial 2 "with the register turned round": A does not stay behind
-    sameBytes (takenList (after turned (A ∷ [])) B (replicate 128 9)) (2 ∷ 1 ∷ replicate 126 9) ∷
-    sameBytes (balances (after turned (A ∷ B ∷ [])) ++ waiting (after turned (A ∷ B ∷ []))) (300 ∷ 100 ∷ 200 ∷ 0 ∷ 0 ∷ 0 ∷ []) ∷
-    -- a second slip behind a stuck first one: both wait, though there is credit for the second
-    sameBytes (answers (opens (bytes "71")) (big 1 ∷ small ∷ [])) (0 ∷ 0 ∷ []) ∷
-    sameBytes (balances (after stuck (small ∷ [])) ++ waiting (after stuck (small ∷ []))) (500 ∷ 0 ∷ 100 ∷ 2 ∷ 0 ∷ 0 ∷ []) ∷
     -- "numbered on from applied + 1": a lawful state, and with taken and applied raised by one no longer
     sameBytes (asked stuck (bytes "71") .answer ∷ taken stuck small (replicate 128 0) .answer ∷ []) (0 ∷ 0 ∷ []) ∷
     sameBytes
@@ -168,5 +143,5 @@ ours =
     []
 
 holds : allTrue (tried ++ ours) ≡ true
-unfolding tried ours balances marks waiting stuck small raised issues issuedText071 lentBuffer turned register71 shownTo concat own071 after answers opens big registerOwn A B payeePart payeeOf issueRows issuedSlip issuing issued issuedBuffer balanceRows asked codeOf taken takenList takeRows entered opened fresh ready apply scan settle order waits lineKept numberedOn paidByShop slipsPass lawful range? shop? rising deps? passes numberFor waitingOf depsFrom slipOf sumTo every slipLayout slipIn slipRead registerLayout registerIn place twins registerAnswer registerTextAnswer registerRead first sameCode digits oneMore numeral run past joined several whole sameBytes allOf allTrue
+unfolding tried ours balances marks stuck small raised issues issuedText071 lentBuffer shownTo own071 after answers opens big registerOwn concat example A B payeePart payeeOf issueRows issuedSlip issuing issued issuedBuffer balanceRows asked codeOf taken takenList takeRows entered opened fresh ready apply scan settle order waits lineKept numberedOn paidByShop slipsPass lawful range? shop? rising deps? passes numberFor waitingOf depsFrom slipOf sumTo every slipLayout slipIn slipRead registerLayout registerIn place twins registerAnswer registerTextAnswer registerRead first sameCode digits oneMore numeral run past joined several whole sameBytes allOf allTrue
 holds = refl

@@ -1,5 +1,6 @@
 -- A terminal is a process of figure 4: each statement of specs/Algorithm.
 use mathlib.Core.Path.{_≡_, refl, sym, ap, _∙_, subst}
+use mathlib.Core.Logic.{_⊎_, inl, inr}
 use mathlib.Core.Bool.{Bool, true, false, not, _||_}
 use mathlib.Core.List.{List, [], _∷_, map}
 use Prim.Native.Nat.{ℕ, _+_, _≤_, _<_}
@@ -29,7 +30,7 @@ use Rattle.replica.specs.Demand.{start}
 use Rattle.replica.specs.Lasting.{StepsKeep}
 use Rattle.replica.specs.Algorithm.{Transfer, OneOf, Has, Named, Stands, Locals, initially, Valid, InHistoryOf, InSomeHistory, lastOf, messageOf, firstOf}
 use Rattle.replica.specs.Algorithm.{Moment, opens, takes, applies, issues, openings}
-use Rattle.replica.specs.Algorithm.{RunsAsFigure4, RecordFollows, TakingDelivers, ReadyIsValid, ReadyIsValidAsPrinted, IssueIsTransfer, ShortIsFalse, FirstSlipsStand}
+use Rattle.replica.specs.Algorithm.{RunsAsFigure4, RecordFollows, TakingDelivers, ReadyIsValid, OnlyFirstIsValid, ReadyIsValidAsPrinted, IssueIsTransfer, ShortIsFalse, BalanceIsRead, FirstSlipsStand}
 use Rattle.replica.proofs.Sums.{either, at-every}
 use Rattle.replica.proofs.Parts.{Parts, parts}
 use Rattle.replica.proofs.Opened.{map-drop, map-replicate}
@@ -37,7 +38,7 @@ use Rattle.replica.proofs.Back.{waiting-back}
 use Rattle.replica.proofs.Applied.{passed-of, ready-funds}
 use Rattle.replica.proofs.Taken as took
 use Rattle.replica.proofs.Taken.{accepted}
-use Rattle.replica.proofs.Issued.{free}
+use Rattle.replica.proofs.Issued.{free, asked-told}
 use Rattle.replica.proofs.IssuedSlip.{zero-shop}
 use Rattle.replica.proofs.Keeping.{calls-keep}
 use Rattle.replica.proofs.Fronts.{ready-number, ready-needs}
@@ -121,6 +122,12 @@ module _ (self : Replica) (l : Locals) (M : Moment self l) (q : ℕ) (h : q < sh
 pub ready-is-valid : ReadyIsValid
 ready-is-valid self l M q h one H S = (ready-valid self l M q h one H S, valid-ready self l M q h one H S)
 
+-- a slip behind the first has a later number than applied + 1
+pub only-first-is-valid : OnlyFirstIsValid
+unfolding slipOf
+only-first-is-valid self l M q k h behind inside known H v =
+    omega (arith, v .line33, parts self (kept M .lawful) .lined q h .numbers k inside, kept M .follows .seq q h)
+
 -- where all that h names pays q, it is in the history of q if it is in any
 pub ready-is-valid-as-printed : ReadyIsValidAsPrinted
 ready-is-valid-as-printed self l M q h one H S pays =
@@ -153,6 +160,10 @@ marks-back self P payee amount r =
     let back = waiting-back (self .register) R w inside inside (length-map (self .shops) mark ∙ P .shopPlaces) (ap (allOf (eqb 0)) zeros ∙ zeros-all 0 (eqb 0) refl (length unused)) in
     ap (λ (x : Waiting). getD (x .needs) r 0) back ∙ List·getD-map mark (self .shops) r noShop
 
+-- what deps has, both its parties have
+in-deps : (self : Replica) (l : Locals) → Moment self l → (t : Transfer) → OneOf t (l .deps) → Known (shopCount self) (l .seq) (l .hist) t
+in-deps self l M t o = let K = kept M in K .recorded .known (own self) (own-below self (parts self (K .lawful))) t (K .recorded .kept t o .inOwn)
+
 pub issue-is-transfer : IssueIsTransfer
 unfolding issuedSlip
 issue-is-transfer self l M payee amount buffer e =
@@ -160,7 +171,7 @@ issue-is-transfer self l M payee amount buffer e =
     let F = K .follows in
     let P = parts self (K .lawful) in
     let inside = own-below self P in
-    let s = issuedSlip self payee amount in
+    let known = in-deps self l M in
     record {
       line10 = omega (arith, free self payee amount buffer e .enough, F .balance (own self) inside);
       union = λ t o. K .recorded .kept t o .inOwn;
@@ -181,9 +192,6 @@ issue-is-transfer self l M payee amount buffer e =
     named r h =
         let P = parts self (kept M .lawful) in
         needs-at self P (issuedSlip self payee amount) r h ∙ marks-back self P payee amount r ∙ kept M .follows .marks r h
-
-    known : (t : Transfer) → OneOf t (l .deps) → Known (shopCount self) (l .seq) (l .hist) t
-    known t o = let K = kept M in K .recorded .known (own self) (own-below self (parts self (K .lawful))) t (K .recorded .kept t o .inOwn)
 
 -- a row with another number did not give the answer
 other-row : (m : Meaning) (t : Bool) (rows : List Row) (n : ℕ) → (numberOf m ≡ n → ⊥) → answerOf ((m, t) ∷ rows) ≡ n → answerOf rows ≡ n
@@ -208,6 +216,18 @@ short-is-false self l M payee amount buffer e covers =
     let less = ltb-true (ownShop self .balance) amount (last-row Meaning.short _ 9 (omega arith) c10) in
     let K = kept M in
     omega (arith, K .follows .balance (own self) (own-below self (parts self (K .lawful))))
+
+-- ---- asking a balance is read
+
+pub balance-is-read : BalanceIsRead
+balance-is-read self l M code e =
+    let T = asked-told self code e in
+    let a = position (self .register) (codeOf code) in
+    record { line15 = omega (arith, T .balance, kept M .follows .balance a (T .inside)); union = λ t o party. in-history t o a party }
+  where
+    in-history : (t : Transfer) → OneOf t (l .deps) → (a : ℕ) → (t .c ≡ a) ⊎ (t .d ≡ a) → OneOf t (l .hist a)
+    in-history t o a (inl c) = subst (λ (x : ℕ). OneOf t (l .hist x)) c (in-deps self l M t o .inPayer)
+    in-history t o a (inr d) = subst (λ (x : ℕ). OneOf t (l .hist x)) d (in-deps self l M t o .inPayee)
 
 pub first-slips-stand : FirstSlipsStand
 first-slips-stand shops most = record { inside = λ r k h. h .0; upto = λ r k h. (h .1, h .2); last = λ r l m. (l, m, omega arith) }

@@ -1,4 +1,4 @@
--- Issuing keeps the state rule; asking a balance leaves the state alone.
+-- Issuing keeps the state rule; asking a balance leaves the state alone and tells the balance.
 use mathlib.Core.Path.{_≡_, refl, sym, ap, _∙_}
 use mathlib.Core.Bool.{true, false, not, _||_}
 use mathlib.Core.List.{List, [], _∷_, map}
@@ -10,7 +10,7 @@ use borrow.Author.Tests.{eqb-false, ltb-false, not-false}
 use Rattle.texts.specs.Bytes.{allOf}
 use Rattle.texts.specs.Answers.{Meaning, answerOf}
 use Rattle.texts.specs.Code.{sameCode, codeOf}
-use Rattle.texts.specs.Register.{listed}
+use Rattle.texts.specs.Register.{listed, position}
 use Rattle.texts.proofs.Steps.{both, and, all-none, all-both, all-and}
 use Rattle.texts.proofs.Firsts.{first-zero}
 use Rattle.texts.proofs.Legal.{RegisterLegal, register-legal}
@@ -112,3 +112,20 @@ asked-same self code = go (answerOf (balanceRows self code)) refl
     go : (n : ℕ) → answerOf (balanceRows self code) ≡ n → asked self code .replica ≡ self
     go zero e = rw (e, asked)
     go (suc n) e = rw (e, asked)
+
+-- the shop is there, and what is told is its balance
+pub record Told (self : Replica) (code : List ℕ) : Type 0 where
+  pub inside : position (self .register) (codeOf code) < shopCount self
+  pub balance : asked self code .balance ≡ shopAt self (position (self .register) (codeOf code)) .balance
+
+pub asked-told : (self : Replica) (code : List ℕ) → asked self code .answer ≡ 0 → Told self code
+unfolding asked balanceRows
+asked-told self code e = go (answerOf (balanceRows self code)) refl
+  where
+    go : (n : ℕ) → answerOf (balanceRows self code) ≡ n → Told self code
+    go zero i =
+        let c13 = first-zero Meaning.state (not (lawful self)) _ (omega arith) i in
+        let c2 = first-zero Meaning.shop (not (listed (self .register) (codeOf code))) _ (omega arith) (c13 .1) in
+        let R = register-legal (self .register) (parts self (not-false _ (c13 .0)) .register) in
+        record { inside = below (self .register) (codeOf code) R (not-false _ (c2 .0)); balance = rw (i, asked) }
+    go (suc n) i = let z : suc n ≡ 0 = rw (i, asked) at e in absurd (omega arith)

@@ -20,11 +20,11 @@ use Rattle.texts.specs.declared.entry.Entry.{Entry}
 use Rattle.texts.specs.declared.register.Register.{Register}
 use Rattle.texts.specs.declared.slip.Slip.{Slip}
 use Rattle.texts.specs.declared.pen.Written.{Written}
-use Rattle.texts.proofs.Firsts.{first-zero, no-rows}
+use Rattle.texts.proofs.Firsts.{first-zero, no-rows, applies, passes-by}
 use Rattle.texts.proofs.Steps.{neither, nor}
 use Rattle.texts.proofs.WritingTexts.{slip-zero, slip-put}
 use Rattle.texts.proofs.Legal.{register-legal}
-use Rattle.texts.proofs.Values.{left-of, row-applies, row-passed}
+use Rattle.texts.proofs.Values.{left-of}
 use Rattle.replica.specs.declared.record.Shop.{Shop}
 use Rattle.replica.specs.declared.record.Replica.{Replica}
 use Rattle.replica.specs.declared.issue.Own.{Own}
@@ -49,65 +49,65 @@ askFrom row r s waits issued payee amount = answerOf (drop row (askRows r s wait
 module _ (r : Register) (s : Shop) (waits issued : ℕ) (payee : Code) (amount : ℕ) (l : Bool) (e : l ≡ listed r payee) where
   -- the payee is not listed: 2
   pub ask-shop : not l ≡ true → 2 ≡ askFrom 0 r s waits issued payee amount
-  ask-shop h = row-applies Meaning.shop _ _ (ap not (sym e) ∙ h)
+  ask-shop h = sym (applies Meaning.shop _ _ (ap not (sym e) ∙ h))
 
   module _ (known : not l ≡ false) (t : Bool) (d : t ≡ sameCode payee (r .own)) where
     -- it is listed: the rows after that decide
     past-shop : (n : ℕ) → n ≡ askFrom 1 r s waits issued payee amount → n ≡ askFrom 0 r s waits issued payee amount
-    past-shop n = row-passed Meaning.shop _ _ n (ap not (sym e) ∙ known)
+    past-shop n h = h ∙ sym (passes-by Meaning.shop _ _ (ap not (sym e) ∙ known))
 
     -- the payee is the own shop: 3
     pub ask-self : t ≡ true → 3 ≡ askFrom 0 r s waits issued payee amount
-    ask-self h = past-shop 3 (row-applies Meaning.oneself _ _ (sym d ∙ h))
+    ask-self h = past-shop 3 (sym (applies Meaning.oneself _ _ (sym d ∙ h)))
 
     module _ (another : t ≡ false) where
       -- it is another shop: the rows after that decide
       past-self : (n : ℕ) → n ≡ askFrom 2 r s waits issued payee amount → n ≡ askFrom 0 r s waits issued payee amount
-      past-self n h = past-shop n (row-passed Meaning.oneself _ _ n (sym d ∙ another) h)
+      past-self n h = past-shop n (h ∙ sym (passes-by Meaning.oneself _ _ (sym d ∙ another)))
 
       -- the amount is 0: 4
       pub ask-some : amount ≡ 0 → 4 ≡ askFrom 0 r s waits issued payee amount
-      ask-some h = past-self 4 (row-applies Meaning.range _ _ (ap (λ b. b || ltb 999999 amount) (eq-eqb amount 0 h)))
+      ask-some h = past-self 4 (sym (applies Meaning.range _ _ (ap (λ b. b || ltb 999999 amount) (eq-eqb amount 0 h))))
 
       -- the amount is too large: 4
       pub ask-most : 999999 < amount → 4 ≡ askFrom 0 r s waits issued payee amount
-      ask-most h = past-self 4 (row-applies Meaning.range _ _ (ap (λ b. eqb amount 0 || b) (lt-ltb 999999 amount h) ∙ or-true (eqb amount 0)))
+      ask-most h = past-self 4 (sym (applies Meaning.range _ _ (ap (λ b. eqb amount 0 || b) (lt-ltb 999999 amount h) ∙ or-true (eqb amount 0))))
 
       module _ (some : amount ≡ 0 → ⊥) (within : amount ≤ 999999) where
         -- the amount can be paid in one slip: the rows after that decide
         past-range : (n : ℕ) → n ≡ askFrom 3 r s waits issued payee amount → n ≡ askFrom 0 r s waits issued payee amount
-        past-range n h = past-self n (row-passed Meaning.range _ _ n (nor _ _ (ne-eqb amount 0 some) (le-ltb 999999 amount within)) h)
+        past-range n h = past-self n (h ∙ sym (passes-by Meaning.range _ _ (nor _ _ (ne-eqb amount 0 some) (le-ltb 999999 amount within))))
 
         -- a slip was issued that is not applied: 8
         pub ask-issued : s .applied < issued → 8 ≡ askFrom 0 r s waits issued payee amount
-        ask-issued h = past-range 8 (row-applies Meaning.busy _ _ (ap (λ b. b || ltb 0 waits) (lt-ltb (s .applied) issued h)))
+        ask-issued h = past-range 8 (sym (applies Meaning.busy _ _ (ap (λ b. b || ltb 0 waits) (lt-ltb (s .applied) issued h))))
 
         module _ (back : issued ≤ s .applied) where
           -- slips wait: 8
           pub ask-waits : 0 < waits → 8 ≡ askFrom 0 r s waits issued payee amount
-          ask-waits h = past-range 8 (row-applies Meaning.busy _ _ (ap (λ b. ltb (s .applied) issued || b) (lt-ltb 0 waits h) ∙ or-true (ltb (s .applied) issued)))
+          ask-waits h = past-range 8 (sym (applies Meaning.busy _ _ (ap (λ b. ltb (s .applied) issued || b) (lt-ltb 0 waits h) ∙ or-true (ltb (s .applied) issued))))
 
           module _ (none : waits ≤ 0) where
             -- nothing is under way: the rows after that decide
             past-busy : (n : ℕ) → n ≡ askFrom 4 r s waits issued payee amount → n ≡ askFrom 0 r s waits issued payee amount
-            past-busy n h = past-range n (row-passed Meaning.busy _ _ n (nor _ _ (le-ltb (s .applied) issued back) (le-ltb 0 waits none)) h)
+            past-busy n h = past-range n (h ∙ sym (passes-by Meaning.busy _ _ (nor _ _ (le-ltb (s .applied) issued back) (le-ltb 0 waits none))))
 
             -- no number is left: 10
             pub ask-last : s .applied ≡ 999999 → 10 ≡ askFrom 0 r s waits issued payee amount
-            ask-last h = past-busy 10 (row-applies Meaning.usedup _ _ (eq-eqb (s .applied) 999999 h))
+            ask-last h = past-busy 10 (sym (applies Meaning.usedup _ _ (eq-eqb (s .applied) 999999 h)))
 
             module _ (more : s .applied ≡ 999999 → ⊥) where
               -- a number is left: the last row decides
               past-last : (n : ℕ) → n ≡ askFrom 5 r s waits issued payee amount → n ≡ askFrom 0 r s waits issued payee amount
-              past-last n h = past-busy n (row-passed Meaning.usedup _ _ n (ne-eqb (s .applied) 999999 more) h)
+              past-last n h = past-busy n (h ∙ sym (passes-by Meaning.usedup _ _ (ne-eqb (s .applied) 999999 more)))
 
               -- the balance is below the amount: 9
               pub ask-short : s .balance < amount → 9 ≡ askFrom 0 r s waits issued payee amount
-              ask-short h = past-last 9 (row-applies Meaning.short _ _ (lt-ltb (s .balance) amount h))
+              ask-short h = past-last 9 (sym (applies Meaning.short _ _ (lt-ltb (s .balance) amount h)))
 
               -- nothing is against it: 0
               pub ask-ok : amount ≤ s .balance → 0 ≡ askFrom 0 r s waits issued payee amount
-              ask-ok h = past-last 0 (row-passed Meaning.short _ _ 0 (le-ltb (s .balance) amount h) (sym no-rows))
+              ask-ok h = past-last 0 (sym (passes-by Meaning.short _ _ (le-ltb (s .balance) amount h) ∙ no-rows))
 
 -- ---- an array changed place by place
 
@@ -320,14 +320,14 @@ module _ (self : Replica) (payee : List ℕ) (amount : ℕ) (buffer : List ℕ) 
   pub issue-state : (l : Bool) → l ≡ lawful self → not l ≡ true → (o : Outcome) → o ≡ refused 13 self
       → (o ≡ issued self payee amount buffer) × (buffer ≡ issuedBuffer self payee amount buffer)
   unfolding issueRows
-  issue-state l e h o i = issue-refused 13 (sym (row-applies Meaning.state _ _ (ap not (sym e) ∙ h))) (λ z. omega arith) o i
+  issue-state l e h o i = issue-refused 13 (applies Meaning.state _ _ (ap not (sym e) ∙ h)) (λ z. omega arith) o i
 
   module _ (law : lawful self ≡ true) where
     -- the buffer is too small: 11
     pub issue-room : length buffer < 366 → (o : Outcome) → o ≡ refused 11 self → (o ≡ issued self payee amount buffer) × (buffer ≡ issuedBuffer self payee amount buffer)
     unfolding issueRows
     issue-room h o i =
-        issue-refused 11 (sym (row-passed Meaning.state _ _ 11 (ap not law) (row-applies Meaning.room _ _ (lt-ltb (length buffer) 366 h)))) (λ z. omega arith) o i
+        issue-refused 11 (passes-by Meaning.state _ _ (ap not law) ∙ applies Meaning.room _ _ (lt-ltb (length buffer) 366 h)) (λ z. omega arith) o i
 
     module _ (room : 366 ≤ length buffer) (mine : Own) (ours : (mine .shop ≡ ownShop self) × (mine .waits ≡ lineAt self (own self) .count) × (mine .issued ≡ self .issued))
         (code : Code) (is-code : code ≡ codeOf payee) (n : ℕ) (e : n ≡ answerOf (askRows (self .register) (mine .shop) (mine .waits) (mine .issued) code amount)) where
@@ -335,10 +335,10 @@ module _ (self : Replica) (payee : List ℕ) (amount : ℕ) (buffer : List ℕ) 
       issue-asked : issueAnswer self payee amount buffer ≡ n
       unfolding issueRows
       issue-asked =
-          sym (row-passed Meaning.state _ _ n (ap not law) (row-passed Meaning.room _ _ n (le-ltb (length buffer) 366 room)
-          (e
+          passes-by Meaning.state _ _ (ap not law) ∙ passes-by Meaning.room _ _ (le-ltb (length buffer) 366 room)
+          ∙ sym (e
           ∙ ap₂ (λ (x : Shop) (y : ℕ). answerOf (askRows (self .register) x y (mine .issued) code amount)) (ours .0) (ours .1)
-          ∙ ap₂ (λ (x : ℕ) (y : Code). answerOf (askRows (self .register) (ownShop self) (lineAt self (own self) .count) x y amount)) (ours .2) is-code)))
+          ∙ ap₂ (λ (x : ℕ) (y : Code). answerOf (askRows (self .register) (ownShop self) (lineAt self (own self) .count) x y amount)) (ours .2) is-code)
 
       -- one of them applies
       pub issue-answered : (n ≡ 0 → ⊥) → (o : Outcome) → o ≡ refused n self → (o ≡ issued self payee amount buffer) × (buffer ≡ issuedBuffer self payee amount buffer)
@@ -398,7 +398,7 @@ module _ (self : Replica) (code : List ℕ) where
   -- the state breaks the rule: 13
   pub balance-state : (l : Bool) → l ≡ lawful self → not l ≡ true → (o : Outcome) → o ≡ refused 13 self → o ≡ asked self code
   unfolding balanceRows
-  balance-state l e h o i = balance-refused 13 (row-applies Meaning.state _ _ (ap not (sym e) ∙ h)) (λ z. omega arith) o i
+  balance-state l e h o i = balance-refused 13 (sym (applies Meaning.state _ _ (ap not (sym e) ∙ h))) (λ z. omega arith) o i
 
   module _ (law : lawful self ≡ true) (c : Code) (is-code : c ≡ codeOf code) (t : Bool) (e : t ≡ listed (self .register) c) where
     -- the test of the code, as the row makes it
@@ -409,7 +409,7 @@ module _ (self : Replica) (code : List ℕ) where
     pub balance-shop : t ≡ false → (o : Outcome) → o ≡ refused 2 self → o ≡ asked self code
     unfolding balanceRows
     balance-shop h o i =
-        balance-refused 2 (row-passed Meaning.state _ _ 2 (ap not law) (row-applies Meaning.shop _ _ (ap not (is-listed ∙ h)))) (λ z. omega arith) o i
+        balance-refused 2 (sym (passes-by Meaning.state _ _ (ap not law) ∙ applies Meaning.shop _ _ (ap not (is-listed ∙ h)))) (λ z. omega arith) o i
 
     -- it is: its position is a place of the shops
     pub balance-place : t ≡ true → (p : ℕ) → p ≡ position (self .register) c → p < 16
@@ -421,5 +421,5 @@ module _ (self : Replica) (code : List ℕ) where
     unfolding asked balanceRows
     balance-done h p at =
         let zero : answerOf (balanceRows self code) ≡ 0 =
-        sym (row-passed Meaning.state _ _ 0 (ap not law) (row-passed Meaning.shop _ _ 0 (ap not (is-listed ∙ h)) (sym no-rows))) in
+        passes-by Meaning.state _ _ (ap not law) ∙ passes-by Meaning.shop _ _ (ap not (is-listed ∙ h)) ∙ no-rows in
         ap (λ q. record { answer = 0; count = 0; balance = shopAt self q .balance; replica = self }) (at ∙ ap (position (self .register)) is-code) ∙ sym (rw (zero, asked))

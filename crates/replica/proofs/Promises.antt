@@ -1,12 +1,12 @@
 -- The promises on the steps, from what each step changes.
 use mathlib.Core.Path.{_≡_, refl, sym, ap, ap₂, _∙_, subst}
-use mathlib.Core.Bool.{true, false}
+use mathlib.Core.Bool.{true, false, not}
 use mathlib.Core.List.{List, [], _∷_}
 use Prim.Native.Nat.{ℕ, zero, suc, _+_, _≤_, _<_}
 use native.Mathlib.Omega.{arith}
-use lib.ListN.{length}
+use lib.ListN.{length, drop}
 use borrow.Author.Tests.{eq-eqb, ne-eqb}
-use Rattle.texts.specs.Answers.{answerOf}
+use Rattle.texts.specs.Answers.{answerOf, Row, state}
 use Rattle.texts.specs.Written.{over}
 use Rattle.texts.specs.Register.{registerRead}
 use Rattle.texts.specs.declared.register.RegisterRead.{RegisterRead}
@@ -14,21 +14,25 @@ use Rattle.texts.specs.declared.slip.Slip.{Slip}
 use Rattle.texts.specs.declared.slip.SlipRead.{SlipRead}
 use Rattle.texts.proofs.Values.{fails}
 use Rattle.texts.proofs.ReadingTexts.{register-alike, slip-alike}
+use lib.Seq.{take-append-seam}
+use Rattle.texts.proofs.Firsts.{applies}
 use Rattle.texts.proofs.Legal.{register-legal}
 use Rattle.texts.proofs.Promises.{empty-text-refused}
 use Rattle.replica.specs.declared.record.Shop.{Shop}
 use Rattle.replica.specs.declared.record.Replica.{Replica}
 use Rattle.replica.specs.Bounds.{listRoom}
-use Rattle.replica.specs.Record.{noReplica, shopCount, shopAt}
+use Rattle.replica.specs.Record.{noReplica, shopCount, shopAt, sumTo}
 use Rattle.replica.specs.State.{lawful}
 use Rattle.replica.specs.Settle.{ready, apply, Settles, stop, step, settled, applying}
-use Rattle.replica.specs.Outcome.{did}
+use Rattle.replica.specs.Outcome.{did, refused}
 use Rattle.replica.specs.Open.{fresh, opened}
 use Rattle.replica.specs.Take.{slipFrom, takeRows, takeAnswer, entered, taken, takenList}
-use Rattle.replica.specs.Issue.{issueAnswer, issued, issuedBuffer}
-use Rattle.replica.specs.Promises.{SettlesToTheEnd, times, RisesAsListed, CountAtMost, OpensLawful, TakesLawful, IssuesLawful, AsksSame, TakeRefusalKeeps, IssueRefusalKeeps, Alike, OneToSixAlike, SevenAlike, SlipsComeBack, WaitingComesBack}
-use Rattle.replica.specs.Promises.{RefusedGivesZeros, ZerosUnlawful, EmptyRegisterRefused, SameRegisterOpensAlike, SameSlipTakenAlike}
-use Rattle.replica.proofs.Sums.{either}
+use Rattle.replica.specs.Issue.{issueAnswer, issued, issuedBuffer, issueRows}
+use Rattle.replica.specs.Promises.{SettlesToTheEnd, times, RisesAsListed, CountAtMost, OpensLawful, TakesLawful, IssuesLawful, AsksSame, TakeRefusalKeeps, IssueRefusalKeeps, Alike, OneToSixAlike, SevenAlike, SlipsComeBack, WaitingComesBack, RefusedGivesZeros, ZerosUnlawful, EmptyRegisterRefused, SameRegisterOpensAlike, SameSlipTakenAlike, TakeOrder, IssueOrder, BalanceOrder, TakeCounts}
+use Rattle.replica.proofs.Sums.{either, sum-same, sum-more}
+use Rattle.replica.specs.declared.outcome.Outcome.{Outcome}
+use Rattle.replica.specs.Balance.{balanceRows, asked}
+use Rattle.replica.specs.Calls.{take, issue, balance, call, ZerosRefused}
 use Rattle.replica.proofs.Quiet.{apply-count}
 use Rattle.replica.proofs.Settling.{settles-so}
 use Rattle.replica.proofs.Parts.{parts}
@@ -36,11 +40,25 @@ use Rattle.replica.proofs.OneToOne.{one-to-one}
 use Rattle.replica.proofs.Back.{waiting-held}
 use Rattle.replica.proofs.Applied.{passed-of, payer, same, apply-lawful}
 use Rattle.replica.proofs.Opened.{opened-lawful}
-use Rattle.replica.proofs.Taken.{entered-lawful, taken-settled, taken-lawful}
+use Rattle.replica.proofs.Taken.{entered-lawful, taken-settled, taken-lawful, entered-alone}
 use Rattle.replica.proofs.Going.{waits-most}
 use Rattle.replica.proofs.Issued.{issued-lawful, asked-same}
 use Rattle.replica.proofs.Answered.{outcomeIf, bytesIf, answer-if, kept-if}
 use Rattle.replica.proofs.Refusals.{answers-to-six, answer-seven}
+
+-- ---- the orders of the refusals
+
+pub take-order : TakeOrder
+unfolding takeRows
+take-order self text list = refl
+
+pub issue-order : IssueOrder
+unfolding issueRows
+issue-order self payee amount buffer = refl
+
+pub balance-order : BalanceOrder
+unfolding balanceRows
+balance-order self code = refl
 
 -- ---- settling
 
@@ -97,6 +115,41 @@ count-at-most self text list =
     go zero h = h refl
     go (suc n) h = omega arith
 
+-- the applied numbers of n shops, added up, rise by as many as are listed
+abbrev appliedOver : ℕ → Replica → ℕ
+appliedOver n self = sumTo n (λ q. shopAt self q .applied)
+
+rises-in-all : {self end : Replica} {list : List ℕ} → Settles self list end → lawful self ≡ true
+    → (n : ℕ) → shopCount self ≡ n → appliedOver n end ≡ appliedOver n self + length list
+rises-in-all (stop N) l n c = omega arith
+rises-in-all (step {self} {end} {p} {list} h N r t) l n c =
+    let P = parts self l in
+    let ih = rises-in-all t (apply-lawful self p l h r) n (apply-count self p ∙ c) in
+    let one : appliedOver n (apply self p) ≡ appliedOver n self + 1 =
+    sum-more n _ _ p 1 (omega arith) (ap (λ (s : Shop). s .applied) (payer self p P h r)) (λ q d. same self p P h r q d .1) in
+    omega arith
+
+-- ---- what a take applied
+
+pub take-answered : (self : Replica) (text list : List ℕ) → taken self text list .answer ≡ takeAnswer self text list
+unfolding taken
+take-answered self text list = answer-if _ self refl (takeAnswer self text list)
+
+pub take-counts : TakeCounts
+unfolding taken takenList
+take-counts self text list e =
+    let z : takeAnswer self text list ≡ 0 = sym (take-answered self text list) ∙ e in
+    let x = entered self (slipFrom text) in
+    let n = shopCount self in
+    let l = entered-lawful self text list z in
+    let alone = entered-alone self text list z (λ s. s .applied) (λ _. refl) in
+    let front = take-append-seam (applying x) (drop (length (applying x)) list) in
+    let before : appliedOver n x ≡ appliedOver n self = sum-same n _ _ (λ q _. alone q) in
+    rw (z, taken, takenList) record {
+      each = λ q h. rises (settles-so x) l q ∙ ap₂ (λ (k : ℕ) (f : List ℕ). k + times q f) (alone q) (sym front);
+      all = rises-in-all (settles-so x) l n (unfold entered in refl) ∙ ap (λ (k : ℕ). k + length (applying x)) before;
+    }
+
 -- ---- the state rule is kept
 
 pub opens-lawful : OpensLawful
@@ -144,10 +197,6 @@ same-slip-taken-alike self s t list e =
 
 -- ---- refusals
 
-pub take-answered : (self : Replica) (text list : List ℕ) → taken self text list .answer ≡ takeAnswer self text list
-unfolding taken
-take-answered self text list = answer-if _ self refl (takeAnswer self text list)
-
 pub take-refusal-keeps : TakeRefusalKeeps
 unfolding taken takenList
 take-refusal-keeps self text list h = kept-if _ self _ list (takeAnswer self text list) (λ e. h (take-answered self text list ∙ e))
@@ -159,6 +208,16 @@ issue-answered self payee amount buffer = answer-if _ self refl (issueAnswer sel
 pub issue-refusal-keeps : IssueRefusalKeeps
 unfolding issued issuedBuffer
 issue-refusal-keeps self payee amount buffer h = kept-if _ self _ buffer (issueAnswer self payee amount buffer) (λ e. h (issue-answered self payee amount buffer ∙ e))
+
+-- the record of zeros breaks the state rule: no shop is in its register
+with-13 : (o : Outcome) (rows : List Row) → outcomeIf o noReplica (answerOf ((state, not (lawful noReplica)) ∷ rows)) ≡ refused 13 noReplica
+with-13 o rows = ap (outcomeIf o noReplica) (applies state (not (lawful noReplica)) rows (ap not zeros-unlawful))
+
+pub zeros-refused : ZerosRefused
+unfolding call taken takeRows issued issueRows asked balanceRows
+zeros-refused (take text list) = with-13 _ _
+zeros-refused (issue payee amount buffer) = with-13 _ _
+zeros-refused (balance code) = with-13 _ _
 
 -- ---- who can refuse whom
 

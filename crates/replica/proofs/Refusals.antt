@@ -1,6 +1,6 @@
 -- "Who can refuse whom. For a legal state and a large enough list, answers 1 to 6 of a take rest on the register, the slip and the payer's
 -- taken number only. Answer 7 rests besides on the payer's waiting count."
-use mathlib.Core.Path.{_≡_, refl, sym, ap, ap₂, _∙_}
+use mathlib.Core.Path.{_≡_, sym, ap, ap₂, _∙_}
 use mathlib.Core.Logic.{_≢_}
 use mathlib.Core.Bool.{true, not}
 use mathlib.Core.List.{List, [], _∷_, _++_}
@@ -13,28 +13,12 @@ use Rattle.texts.specs.Bytes.{found}
 use Rattle.texts.specs.Answers.{Row, form, shop, oneself, range, deps, number, full, room, state, answerOf}
 use Rattle.texts.specs.Slip.{slipIn}
 use Rattle.texts.specs.declared.register.Register.{Register}
-use Rattle.texts.proofs.Firsts.{numbersOf, passes-by, before-last}
+use Rattle.texts.proofs.Firsts.{passes-by, before-last}
 use Rattle.replica.specs.declared.record.Replica.{Replica}
 use Rattle.replica.specs.Record.{shopAt, lineAt}
 use Rattle.replica.specs.Checks.{range?, shop?, self?, deps?}
 use Rattle.replica.specs.State.{lawful}
 use Rattle.replica.specs.Take.{slipFrom, payerOf, full?, takeRows, takeAnswer}
-use Rattle.replica.specs.Issue.{issueRows}
-use Rattle.replica.specs.Balance.{balanceRows}
-
--- "Take: 13, 11, 1, 4, 2, 3, 5, 6, 7. Issue: 13, 11, 2, 3, 4, 8, 10, 9. Balance: 13, 2."
-take-order : (self : Replica) (text list : List ℕ) → numbersOf (takeRows self text list) ≡ 13 ∷ 11 ∷ 1 ∷ 4 ∷ 2 ∷ 3 ∷ 5 ∷ 6 ∷ 7 ∷ []
-unfolding takeRows
-take-order self text list = refl
-
-issue-order : (self : Replica) (payee : List ℕ) (amount : ℕ) (buffer : List ℕ)
-    → numbersOf (issueRows self payee amount buffer) ≡ 13 ∷ 11 ∷ 2 ∷ 3 ∷ 4 ∷ 8 ∷ 10 ∷ 9 ∷ []
-unfolding issueRows
-issue-order self payee amount buffer = refl
-
-balance-order : (self : Replica) (code : List ℕ) → numbersOf (balanceRows self code) ≡ 13 ∷ 2 ∷ []
-unfolding balanceRows
-balance-order self code = refl
 
 -- rows 1 to 6, over the register, the text and the payer's taken number
 abbrev toSix : Register → List ℕ → ℕ → List Row

@@ -257,6 +257,14 @@ entered-lawful self text list e =
     let q : passes (self .register) (A .slip) ≡ true = A .passes in
     rw (A .given) (whole (entered self (A .slip)) (entered-parts self (A .slip) (parts self (A .lawful)) (passed-of (self .register) (A .slip) q) q (A .number) (A .room)))
 
+-- a number of the shops that entering an accepted slip leaves alone
+pub entered-alone : (self : Replica) (text list : List ℕ) → takeAnswer self text list ≡ 0
+    → (f : Shop → ℕ) → ((x : Shop) → f (tookOne x) ≡ f x) → (q : ℕ) → f (shopAt (entered self (slipFrom text)) q) ≡ f (shopAt self q)
+entered-alone self text list e f k q =
+    let A = accepted self text list e in
+    let ok : passes (self .register) (A .slip) ≡ true = A .passes in
+    rw (A .given) (alone self (A .slip) (parts self (A .lawful)) (passed-of (self .register) (A .slip) ok) ok (A .number) (A .room) f k q)
+
 -- an accepted slip: the state that settling leaves is lawful, nothing in it is ready, and the count is how many fewer wait
 pub taken-settled : (self : Replica) (text list : List ℕ) → takeAnswer self text list ≡ 0
     → Settled (λ x. lawful x ≡ true) (entered self (slipFrom text)) (settled (entered self (slipFrom text))) (applying (entered self (slipFrom text)))

@@ -1,8 +1,18 @@
 -- The algorithm of "AT2" (section 3, figure 4) with its own variables, and how a terminal is one of its processes.
 --
--- Two things are not as printed (docs/DECISIONS, "Figure 4"): line 37 starts from the opening credit, and line 35 is asked over the histories
--- of all accounts; where every named transfer pays the payer the two readings of line 35 are one (`ReadyIsValidAsPrinted`).
+-- Not as printed (docs/DECISIONS, "Figure 4"):
+-- 1. Line 37 starts from the opening credit.
+-- 2. Line 35 is asked over the histories of all accounts; where every named transfer pays the payer the two readings of it are one
+--    (`ReadyIsValidAsPrinted`).
+-- 3. The set h is written as one number per shop; `Stands` says which sets such numbers stand for.
+-- 4. A validated transfer leaves toValidate, which never shrinks in print; it is kept per process in the order of delivery, and the first of
+--    each is looked at: no later one is valid (`OnlyFirstIsValid`).
+-- 5. hist and deps, sets in print, are lists in the order of entering; a transfer enters each once.
+-- 6. The sender q of line 16 is the payer on the slip, for which the carrier vouches. Only slips that take accepts are delivered, and only
+--    what issue accepts is broadcast.
+-- Left out: lines 14, 28 and 29, what the caller is told. Line 15 is `BalanceIsRead`.
 use mathlib.Core.Path.{_≡_}
+use mathlib.Core.Logic.{_⊎_}
 use mathlib.Core.Bool.{true, false}
 use mathlib.Core.List.{List, [], _∷_, _++_, map}
 use Prim.Native.Nat.{ℕ, zero, suc, _+_, _≤_, _<_}
@@ -20,6 +30,7 @@ use Rattle.replica.specs.Settle.{ready, apply}
 use Rattle.replica.specs.Open.{opened}
 use Rattle.replica.specs.Take.{slipFrom, payerOf, entered, takeAnswer}
 use Rattle.replica.specs.Issue.{issueAnswer, issuedSlip, issuing}
+use Rattle.replica.specs.Balance.{asked}
 use Rattle.replica.specs.Demand.{Terminal, now}
 
 -- ---- transfers and messages
@@ -79,7 +90,7 @@ initially = record { seq = λ _. 0; rec = λ _. 0; hist = λ _. []; deps = []; t
 unfoldable pub put : {A : Type 0} → ℕ → A → (ℕ → A) → ℕ → A
 put p v f q = elim (eqb q p) [ true ↦ v | false ↦ f q ]
 
--- ---- the lines of figure 4
+-- ---- the lines of figure 4, in its order but for the last two, which Valid needs
 
 -- lines 36 and 37, the sums of incoming and of outgoing transfers
 unfoldable pub incoming : ℕ → List Transfer → ℕ
@@ -93,6 +104,18 @@ outgoing a (t ∷ h) = elim (eqb (t .c) a) [ true ↦ t .y | false ↦ 0 ] + out
 -- "balance(a, h) ≥ y", from the opening credit, added and never taken away
 abbrev pub Covers : ℕ → ℕ → List Transfer → ℕ → Type 0
 Covers opening a h y = outgoing a h + y ≤ opening + incoming a h
+
+-- The last transfer of r in a set of them, 0 where there is none.
+unfoldable pub lastOf : List Transfer → ℕ → ℕ
+lastOf [] r = 0
+lastOf (t ∷ l) r = elim (lastOf l r) [ zero ↦ elim (eqb (t .c) r) [ true ↦ t .s | false ↦ 0 ] | suc k ↦ suc k ]
+
+-- line 12: what process p broadcasts, "deps" as one number per shop; line 13: "deps := ∅"
+abbrev pub broadcast : ℕ → ℕ → ℕ → Locals → Message
+broadcast p b x l = record { t = record { c = p; d = b; y = x; s = l .seq p + 1 }; needs = lastOf (l .deps) }
+
+unfoldable pub cleared : Locals → Locals
+cleared l = record { seq = l .seq; rec = l .rec; hist = l .hist; deps = []; toValidate = l .toValidate }
 
 -- lines 16 to 20: "deliver(q, m)"
 unfoldable pub deliver : ℕ → Message → Locals → Locals
@@ -135,18 +158,6 @@ InHistoryOf l q r k = Has (l .hist q) r k
 -- the same over the histories of all accounts
 abbrev pub InSomeHistory : ℕ → Locals → Named
 InSomeHistory n l r k = (a : ℕ) × (a < n) × Has (l .hist a) r k
-
--- The last transfer of r in a set of them, 0 where there is none.
-unfoldable pub lastOf : List Transfer → ℕ → ℕ
-lastOf [] r = 0
-lastOf (t ∷ l) r = elim (lastOf l r) [ zero ↦ elim (eqb (t .c) r) [ true ↦ t .s | false ↦ 0 ] | suc k ↦ suc k ]
-
--- line 12: what process p broadcasts, "deps" as one number per shop; line 13: "deps := ∅"
-abbrev pub broadcast : ℕ → ℕ → ℕ → Locals → Message
-broadcast p b x l = record { t = record { c = p; d = b; y = x; s = l .seq p + 1 }; needs = lastOf (l .deps) }
-
-unfoldable pub cleared : Locals → Locals
-cleared l = record { seq = l .seq; rec = l .rec; hist = l .hist; deps = []; toValidate = l .toValidate }
 
 -- ---- a terminal as a process of it
 
@@ -209,6 +220,12 @@ ReadyIsValid =
     → (h : Named) → Stands (shopCount self) (firstOf self q .needs) h
     → Exactly (ready self q ≡ true) (Valid (openings self) l (InSomeHistory (shopCount self) l) q (firstOf self q .t) h)
 
+-- A message behind the first is not valid, whatever it names and whatever line 35 asks: line 33.
+abbrev pub OnlyFirstIsValid : Type 1
+OnlyFirstIsValid =
+    (self : Replica) (l : Locals) → Moment self l → (q k : ℕ) → q < shopCount self → 0 < k → k < lineAt self q .count
+    → (known h : Named) → Valid (openings self) l known q (messageOf (self .register) (slipAt self q k) .t) h → ⊥
+
 -- Every transfer that h names, so far as it is known, pays q.
 abbrev pub PaysTo : Locals → ℕ → Named → Type 0
 PaysTo l q h = (r k : ℕ) → h r k → (t : Transfer) → OneOf t (l .hist r) → t .c ≡ r → t .s ≡ k → t .d ≡ q
@@ -242,3 +259,15 @@ abbrev pub ShortIsFalse : Type 0
 ShortIsFalse =
     (self : Replica) (l : Locals) → Moment self l → (payee : List ℕ) (amount : ℕ) (buffer : List ℕ) → issueAnswer self payee amount buffer ≡ 9
     → Covers (openings self (own self)) (own self) (l .hist (own self)) amount → ⊥
+
+-- ---- asking a balance is "read(a)"
+
+-- line 15: "balance(a, hist[a] ∪ deps)", and what deps has of an account is in its history.
+pub record ReadsAs (self : Replica) (l : Locals) (a told : ℕ) : Type 0 where
+  pub line15 : told + outgoing a (l .hist a) ≡ openings self a + incoming a (l .hist a)
+  pub union : (t : Transfer) → OneOf t (l .deps) → (t .c ≡ a) ⊎ (t .d ≡ a) → OneOf t (l .hist a)
+
+abbrev pub BalanceIsRead : Type 0
+BalanceIsRead =
+    (self : Replica) (l : Locals) → Moment self l → (code : List ℕ) → asked self code .answer ≡ 0
+    → ReadsAs self l (position (self .register) (codeOf code)) (asked self code .balance)

@@ -24,6 +24,7 @@ use Rattle.replica.specs.Demand.{Terminal, start, now, appliedOf}
 abbrev pub Balances : Type 0
 Balances = ℕ → ℕ
 
+-- "q′ = q"
 abbrev pub Same : ℕ → Balances → Balances → Type 0
 Same n q q′ = (c : ℕ) → c < n → q′ c ≡ q c
 
@@ -87,11 +88,11 @@ unfoldable pub ofShop : ℕ → List Applied → List Slip
 ofShop p [] = []
 ofShop p (a ∷ l) = elim (eqb (a .payer) p) [ true ↦ a .slip ∷ ofShop p l | false ↦ ofShop p l ]
 
--- A successful transfer out of the payer's account, by the payer.
+-- A successful transfer out of the account of the slip's payer, by the shop in whose line the slip stood.
 abbrev pub transferred : (n : ℕ) → Register → Applied → Event n Owns
 transferred n r a =
     record {
-      process = position r (a .slip .payer);
+      process = a .payer;
       operation = transfer (position r (a .slip .payer)) (position r (a .slip .payee)) (a .slip .amount);
       response = said true;
     }

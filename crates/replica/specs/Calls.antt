@@ -1,4 +1,5 @@
 -- Calls in any number and order, refused ones among them, each on the state that the call before it gave back; and what happened in them.
+use mathlib.Core.Path.{_≡_}
 use mathlib.Core.List.{List, [], _∷_, _++_}
 use Prim.Native.Nat.{ℕ, zero, suc}
 use lib.Dec.{eqb}
@@ -6,8 +7,10 @@ use mathlib.Core.Bool.{true, false}
 use Rattle.texts.specs.declared.slip.Slip.{Slip}
 use Rattle.replica.specs.declared.record.Replica.{Replica}
 use Rattle.replica.specs.declared.outcome.Outcome.{Outcome}
+use Rattle.replica.specs.Record.{noReplica}
 use Rattle.replica.specs.Slips.{slipAt}
 use Rattle.replica.specs.Settle.{apply, applying}
+use Rattle.replica.specs.Outcome.{refused}
 use Rattle.replica.specs.Take.{slipFrom, payerOf, entered, taken, takenList}
 use Rattle.replica.specs.Issue.{issued, issuedBuffer}
 use Rattle.replica.specs.Balance.{asked}
@@ -33,14 +36,14 @@ call self (balance code) = record { outcome = asked self code; bytes = [] }
 abbrev pub after : Replica → Call → Replica
 after self c = call self c .outcome .replica
 
--- "each on the state that the call before it gave back": what every call gives, and the state at the end.
-unfoldable pub run : Replica → List Call → List Given
-run self [] = []
-run self (c ∷ cs) = call self c ∷ run (after self c) cs
-
+-- "each on the state that the call before it gave back": the state at the end.
 unfoldable pub end : Replica → List Call → Replica
 end self [] = self
 end self (c ∷ cs) = end (after self c) cs
+
+-- "A refused register gives a record of zeros, which every call refuses with 13."
+abbrev pub ZerosRefused : Type 0
+ZerosRefused = (c : Call) → call noReplica c .outcome ≡ refused 13 noReplica
 
 -- ---- what happened, shop by shop, as slips
 

@@ -39,10 +39,11 @@ rising r payer least (d ∷ ds) =
 unfoldable pub deps? : Register → Slip → Bool
 deps? r s = not (rising r (position r (s .payer)) 0 (depsOf s))
 
--- "checks 1 (as a value to write), 4, 2, 3 and 5"
+-- 4, 2, 3 and 5, as take asks them of a slip that was read
 abbrev pub checkRows : Register → Slip → List Row
 checkRows r s = (range, range? s) ∷ (shop, shop? r s) ∷ (oneself, self? s) ∷ (deps, deps? r s) ∷ []
 
+-- "checks 1 (as a value to write), 4, 2, 3 and 5"
 abbrev pub slipRows : Register → Slip → List Row
 slipRows r s = (form, form? s) ∷ checkRows r s
 

@@ -1,4 +1,4 @@
--- The promise to the woman at shop 071: whichever order the slips came in, "neither of you".
+-- "Neither of you": whichever order the slips came in, the terminals agree.
 --
 -- Two replicas are opened from register texts, both with answer 0, on the same shops in the same order with the same opening credit; their own
 -- shops may differ. Then any calls are made on each, refused ones among them. `takenIn` and `appliedIn` (specs/Calls) are the slips that a
@@ -64,7 +64,7 @@ abbrev pub SameSlipsSameStates : Type 0
 SameSlipsSameStates =
     (a b : Terminal) → SameShops a b → ((p : ℕ) → p < shopCount (start a) → tookOf a p ≡ tookOf b p) → (p : ℕ) → p < shopCount (start a) → SameAt (now a) (now b) p
 
--- The applied slips are the first so many of those taken in.
+-- "The applied slips of a shop are the first so many of its taken slips."
 abbrev pub AppliedAreFirst : Type 0
 AppliedAreFirst = (a : Terminal) (p : ℕ) → p < shopCount (start a) → Begins (appliedOf a p) (tookOf a p)
 

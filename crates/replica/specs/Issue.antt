@@ -51,7 +51,7 @@ issuedSlip self payee amount =
 abbrev pub issuedText : Replica → List ℕ → ℕ → List ℕ
 issuedText self payee amount = slipLayout .text (issuedSlip self payee amount)
 
--- "remembers the issued number; sets all marks to 0"
+-- "remembers the issued number; sets all marks to 0", "The slip counts only once the carrier brings it back": nothing is taken in here.
 abbrev pub unmarked : Shop → Shop
 unmarked s = record { balance = s .balance; taken = s .taken; applied = s .applied; mark = 0 }
 

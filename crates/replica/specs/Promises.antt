@@ -4,22 +4,35 @@ use mathlib.Core.Bool.{true, false}
 use mathlib.Core.List.{List, [], _∷_}
 use Prim.Native.Nat.{ℕ, suc, _+_, _≤_, _<_}
 use lib.Dec.{eqb}
-use lib.ListN.{length}
+use lib.ListN.{length, take}
 use Rattle.texts.specs.Register.{registerIn}
 use Rattle.texts.specs.Slip.{slipIn}
+use Rattle.texts.specs.Answers.{numbersOf}
 use Rattle.texts.specs.declared.slip.Slip.{Slip}
 use Rattle.replica.specs.declared.record.Replica.{Replica}
 use Rattle.replica.specs.declared.outcome.Outcome.{Outcome}
 use Rattle.replica.specs.Bounds.{listRoom}
-use Rattle.replica.specs.Record.{noReplica, shopCount, shopAt, lineAt, waitingAt}
+use Rattle.replica.specs.Record.{noReplica, shopCount, shopAt, lineAt, waitingAt, sumTo}
 use Rattle.replica.specs.Slips.{waitingOf, slipOf, slipAt}
 use Rattle.replica.specs.Checks.{passes}
 use Rattle.replica.specs.State.{lawful}
 use Rattle.replica.specs.Settle.{ready, apply, NoneReady, settled, applying}
 use Rattle.replica.specs.Open.{opened}
-use Rattle.replica.specs.Take.{slipFrom, payerOf, taken, takenList}
-use Rattle.replica.specs.Issue.{issued, issuedBuffer}
-use Rattle.replica.specs.Balance.{asked}
+use Rattle.replica.specs.Take.{slipFrom, payerOf, takeRows, taken, takenList}
+use Rattle.replica.specs.Issue.{issueRows, issued, issuedBuffer}
+use Rattle.replica.specs.Balance.{balanceRows, asked}
+
+-- ---- "Take: 13, 11, 1, 4, 2, 3, 5, 6, 7. Issue: 13, 11, 2, 3, 4, 8, 10, 9. Balance: 13, 2."
+
+abbrev pub TakeOrder : Type 0
+TakeOrder = (self : Replica) (text list : List ℕ) → numbersOf (takeRows self text list) ≡ 13 ∷ 11 ∷ 1 ∷ 4 ∷ 2 ∷ 3 ∷ 5 ∷ 6 ∷ 7 ∷ []
+
+abbrev pub IssueOrder : Type 0
+IssueOrder =
+    (self : Replica) (payee : List ℕ) (amount : ℕ) (buffer : List ℕ) → numbersOf (issueRows self payee amount buffer) ≡ 13 ∷ 11 ∷ 2 ∷ 3 ∷ 4 ∷ 8 ∷ 10 ∷ 9 ∷ []
+
+abbrev pub BalanceOrder : Type 0
+BalanceOrder = (self : Replica) (code : List ℕ) → numbersOf (balanceRows self code) ≡ 13 ∷ 2 ∷ []
 
 -- ---- settling
 
@@ -35,6 +48,15 @@ times q (p ∷ list) = elim (eqb p q) [ true ↦ suc (times q list) | false ↦ 
 -- The listed positions are the rise in applied numbers, shop by shop.
 abbrev pub RisesAsListed : Type 0
 RisesAsListed = (self : Replica) → lawful self ≡ true → (q : ℕ) → q < shopCount self → shopAt (settled self) q .applied ≡ shopAt self q .applied + times q (applying self)
+
+-- "one that invents the applied count (it equals the listed positions and the rise in applied numbers)": of a take with answer 0 the listed
+-- positions, as many as the count says, are the rise in applied numbers, shop by shop and in all.
+pub record CountsRise (self : Replica) (o : Outcome) (list : List ℕ) : Type 0 where
+  pub each : (q : ℕ) → q < shopCount self → shopAt (o .replica) q .applied ≡ shopAt self q .applied + times q (take (o .count) list)
+  pub all : sumTo (shopCount self) (λ q. shopAt (o .replica) q .applied) ≡ sumTo (shopCount self) (λ q. shopAt self q .applied) + o .count
+
+abbrev pub TakeCounts : Type 0
+TakeCounts = (self : Replica) (text list : List ℕ) → taken self text list .answer ≡ 0 → CountsRise self (taken self text list) (takenList self text list)
 
 -- No take applies more slips than a list of 128 bytes has places.
 abbrev pub CountAtMost : Type 0
@@ -120,7 +142,7 @@ OneToSixAlike =
     (a b : Replica) (text xs ys : List ℕ) → Alike a b text xs ys → (k : ℕ) → 1 ≤ k → k ≤ 6
     → (taken a text xs .answer ≡ k → taken b text ys .answer ≡ k) × (taken b text ys .answer ≡ k → taken a text xs .answer ≡ k)
 
--- "Answer 7 rests besides on the payer's waiting count."
+-- "Answer 7 rests besides on the payer's waiting count. Another shop's waiting slips fill no place of the payer's."
 abbrev pub SevenAlike : Type 0
 SevenAlike =
     (a b : Replica) (text xs ys : List ℕ) → Alike a b text xs ys

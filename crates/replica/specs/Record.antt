@@ -28,7 +28,7 @@ noLine = record { count = 0; slips = replicate mostWaiting noWaiting }
 abbrev pub noReplica : Replica
 noReplica = record { register = noRegister; issued = 0; shops = replicate mostShops noShop; lines = replicate mostShops noLine }
 
--- ---- parts by position. Past an array's end stands what the checker has there; nothing below asks for it.
+-- ---- parts by position. Past an array's end stands what the checker has there; no answer rests on it.
 
 abbrev pub listedAt : Register → ℕ → Entry
 listedAt r p = getD (r .shops) p (record { code = record { digits = []; len = 0 }; number = 0 })

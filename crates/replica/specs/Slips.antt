@@ -55,10 +55,11 @@ slipOf r w =
 abbrev pub slipAt : Replica → ℕ → ℕ → Slip
 slipAt self p k = slipOf (self .register) (waitingAt self p k)
 
--- The slips that wait for shop p, first to last.
+-- f 0, f 1, and so on: the first so many of them.
 unfoldable pub firsts : {A : Type 0} → ℕ → (ℕ → A) → List A
 firsts zero f = []
 firsts (suc k) f = f 0 ∷ firsts k (λ i. f (i + 1))
 
+-- The slips that wait for shop p, first to last.
 abbrev pub waitingSlips : Replica → ℕ → List Slip
 waitingSlips self p = firsts (lineAt self p .count) (slipAt self p)

@@ -72,7 +72,7 @@ entered self s =
       lines = set (self .lines) (payerOf self s) (withLast (lineAt self (payerOf self s)) (waitingOf (self .register) s));
     }
 
--- "then settle. The answer is how many slips were applied, n"
+-- "then settle. The answer is how many slips were applied, n", "A slip that waits has answer 0: it was taken."
 unfoldable pub taken : Replica → List ℕ → List ℕ → Outcome
 taken self text list =
     elim (takeAnswer self text list) [

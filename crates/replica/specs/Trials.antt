@@ -6,6 +6,7 @@ use Prim.Native.Nat.{ℕ}
 use lib.ListN.{length, take, replicate}
 use Rattle.texts.specs.Bytes.{bytes, sameBytes, allOf}
 use Rattle.texts.specs.Written.{over}
+use Rattle.replica.specs.Bounds.{listRoom}
 use Rattle.replica.specs.declared.record.Shop.{Shop}
 use Rattle.replica.specs.declared.record.Line.{Line}
 use Rattle.replica.specs.declared.record.Replica.{Replica}
@@ -15,7 +16,7 @@ use Rattle.replica.specs.Take.{taken, takenList}
 
 -- The lent list.
 abbrev pub lent : List ℕ
-lent = replicate 128 255
+lent = replicate listRoom 255
 
 -- What a take gives: its answer, its count, and the whole lent list.
 abbrev pub gives : ℕ → List ℕ → List ℕ
@@ -101,6 +102,6 @@ ours =
     (gives 0 [] ∷ gives 0 [] ∷ []) (500 ∷ 0 ∷ 100 ∷ []) (2 ∷ 0 ∷ 0 ∷ []) ∷
     []
 
--- Every row holds. It is stated as a test that computes; a comparison of two lists or records by `refl` can take antt out of its steps.
+-- Every row holds, as a test that computes.
 abbrev pub TrialsHold : Type 0
 TrialsHold = allOf holds (trials ++ ours) ≡ true

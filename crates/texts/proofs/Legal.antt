@@ -10,7 +10,7 @@ use lib.ListN.{length, take, drop, getD, replicate, length-drop, length-append, 
 use lib.Seq.{length-take-le, take-at, drop-at}
 use borrow.Author.Tests.{eqb-true, eq-eqb, leb-true, le-leb, not-false, ne-eqb}
 use Rattle.texts.specs.Bytes.{bytes, sameBytes, allOf, found, orZeros}
-use Rattle.texts.specs.Bounds.{codePlaces, mostShops, most}
+use Rattle.texts.specs.Bounds.{codePlaces, mostShops, most, mostDeps}
 use Rattle.texts.specs.Code.{code, isCode, sameCode, spelled, noCode}
 use Rattle.texts.specs.Lines.{six}
 use Rattle.texts.specs.Entries.{noEntry, zeroEntry, entryLine}
@@ -21,7 +21,7 @@ use Rattle.texts.specs.declared.code.Code.{Code}
 use Rattle.texts.specs.declared.entry.Entry.{Entry}
 use Rattle.texts.specs.declared.register.Register.{Register}
 use Rattle.texts.specs.declared.slip.Slip.{Slip}
-use Rattle.texts.proofs.Steps.{both, and, upto, all-both, all-used-at, all-zeros, zeros-all, bytes-same, neither}
+use Rattle.texts.proofs.Steps.{both, and, upto, all-both, all-used-at, all-zeros, zeros-all, bytes-same, neither, within}
 use Rattle.texts.proofs.Firsts.{first-zero}
 use Rattle.texts.proofs.LawsTexts.{same-code, zeroEntry-is, register-only}
 
@@ -29,7 +29,7 @@ use Rattle.texts.proofs.LawsTexts.{same-code, zeroEntry-is, register-on
 
 pub code-same : (c : Code) → sameCode c c ≡ true
 unfolding sameCode
-code-same c = and (eqb (c .len) (c .len)) _ (borrow.Author.Tests.eq-eqb (c .len) (c .len) refl) (bytes-same (c .digits))
+code-same c = and (eqb (c .len) (c .len)) _ (eq-eqb (c .len) (c .len) refl) (bytes-same (c .digits))
 
 -- a code has a digit at least, and no more than its places
 pub code-some : (c : Code) → isCode c ≡ true → 1 ≤ c .len
@@ -61,9 +61,9 @@ legal-entry name e h k = and _ _ h (and _ _ (and _ _ (le-leb 0 (e .number) (omeg
 pub record SlipLegal (s : Slip) : Type 0 where
   pub payer : code 10 .legal (s .payer) ≡ true
   pub payee : code 10 .legal (s .payee) ≡ true
-  pub number : s .number ≤ 999999
-  pub amount : s .amount ≤ 999999
-  pub count : s .count ≤ 15
+  pub number : s .number ≤ most
+  pub amount : s .amount ≤ most
+  pub count : s .count ≤ mostDeps
   pub places : length (s .deps) ≡ mostShops
   pub used : allOf (depLine .legal) (depsOf s) ≡ true
   pub rest : drop (s .count) (s .deps) ≡ replicate (mostShops - s .count) noEntry
@@ -82,9 +82,9 @@ slip-legal s e =
     record {
       payer = a .0;
       payee = c .0;
-      number = upto 0 (s .number) 999999 (b .0);
-      amount = upto 0 (s .amount) 999999 (d .0);
-      count = upto 0 (s .count) 15 (f .0);
+      number = upto 0 (s .number) most (b .0);
+      amount = upto 0 (s .amount) most (d .0);
+      count = upto 0 (s .count) mostDeps (f .0);
       places = l;
       used = h .0;
       rest = all-zeros noEntry zeroEntry zeroEntry-is (drop (s .count) (s .deps)) (h .1) ∙ ap (λ k. replicate k noEntry) (length-drop (s .count) (s .deps) ∙ ap (λ k. k - s .count) l);
@@ -92,18 +92,17 @@ slip-legal s e =
 
 -- and put together
 pub legal-slip : (payer : Code) (number : ℕ) (payee : Code) (amount : ℕ) (ds : List Entry) → code 10 .legal payer ≡ true → code 10 .legal payee ≡ true
-    → number ≤ 999999 → amount ≤ 999999 → length ds ≤ 15 → allOf (depLine .legal) ds ≡ true
+    → number ≤ most → amount ≤ most → length ds ≤ mostDeps → allOf (depLine .legal) ds ≡ true
     → slipLayout .legal (record { payer = payer; number = number; payee = payee; amount = amount; count = length ds; deps = ds ++ replicate (mostShops - length ds) noEntry }) ≡ true
 unfolding slipLayout sameCode sameBytes
 legal-slip payer number payee amount ds a b c d e f =
-    let upto : (n m : ℕ) → n ≤ m → (leb 0 n && leb n m) && true ≡ true = λ n m h. and _ _ (and _ _ (le-leb 0 n (omega arith)) (le-leb n m h)) refl in
     let rest : List Entry = replicate (mostShops - length ds) noEntry in
     let l : length (ds ++ rest) ≡ mostShops = length-append ds rest ∙ omega (arith, length-replicate (mostShops - length ds) noEntry) in
     and _ _ a
-    (and _ _ (upto number 999999 c)
+    (and _ _ (within 0 number most true (omega arith) c)
     (and _ _ b
-    (and _ _ (upto amount 999999 d)
-    (and _ _ (upto (length ds) 15 e)
+    (and _ _ (within 0 amount most true (omega arith) d)
+    (and _ _ (within 0 (length ds) mostDeps true (omega arith) e)
     (and _ _ (eq-eqb _ mostShops l)
     (and _ _ (ap (allOf (depLine .legal)) (take-at ds rest (length ds) refl) ∙ f)
     (ap (allOf zeroEntry) (drop-at ds rest (length ds) refl) ∙ zeros-all noEntry zeroEntry refl (mostShops - length ds))))))))

@@ -8,7 +8,7 @@ use native.Mathlib.Nat.{mul-le-mul-right, le-trans}
 use lib.ListN.{length, take, length-append, length-take}
 use lib.Dec.{eqb}
 use borrow.Author.Tests.{eqb-true}
-use Rattle.texts.specs.Bounds.{mostShops, most, registerRoom, slipRoom}
+use Rattle.texts.specs.Bounds.{mostShops, codePlaces, most, registerRoom, slipRoom}
 use Rattle.texts.specs.Bytes.{bytes, allOf}
 use Rattle.texts.specs.Layout.{Layout, _⟫_, _then_, key, shut, joined, group}
 use Rattle.texts.specs.Leaf.{number}
@@ -48,10 +48,10 @@ number-most w least most = record { most = λ n h. omega (arith, digits-length w
 pub code-most : (b : ℕ) → Most (code b) 9
 code-most b = record {
   most = λ c h.
-      let k = both (eqb (length (c .digits)) 8) _ h in
+      let k = both (eqb (length (c .digits)) codePlaces) _ h in
       let e = length-append (take (c .len) (c .digits)) (b ∷ []) in
       let t = length-take (c .len) (c .digits) in
-      omega (arith, eqb-true (length (c .digits)) 8 (k .0));
+      omega (arith, eqb-true (length (c .digits)) codePlaces (k .0));
 }
 
 joined-most : {A : Type 0} (L : Layout A) (n : ℕ) → Most L n → (xs : List A) → allOf (L .legal) xs ≡ true → length (joined L xs) ≤ length xs * n

@@ -23,3 +23,4 @@ pub mod Lending
 pub mod ReaderLines
 pub mod WritingTexts
 pub mod Promises
+pub mod Showing

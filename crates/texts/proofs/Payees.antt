@@ -1,4 +1,4 @@
--- The payee's part is the bytes of the payee's code, whichever text it is taken from; of no slip it is empty.
+-- Where a payee's code stands in the register's text and in the slip's, and what reading the two answered.
 use mathlib.Core.Path.{_≡_, refl, sym, ap, ap₂, _∙_}
 use mathlib.Core.Bool.{Bool, true, false, not, _&&_, and-false, false≢true}
 use mathlib.Core.Option.{Option, none, some}
@@ -9,6 +9,7 @@ use lib.ListN.{length, take, drop, getD, length-append, length-take}
 use lib.Seq.{take-at, drop-append-seam, take-take, length-take-le, split-at}
 use lib.Dec.{eqb}
 use borrow.Author.Tests.{eqb-true, eq-eqb, ne-eqb, ltb-true}
+use Rattle.texts.specs.Bounds.{codePlaces}
 use Rattle.texts.specs.Bytes.{bytes, found, orZeros}
 use Rattle.texts.specs.Layout.{joined}
 use Rattle.texts.specs.Leaf.{digits}
@@ -18,7 +19,7 @@ use Rattle.texts.specs.Entries.{noEntry, entryLine}
 use Rattle.texts.specs.Answers.{first, answerOf, form}
 use Rattle.texts.specs.Register.{shopsLine, shopLine, ownLine, registerLayout, shopsOf, position, listed, registerAnswer, registerRead}
 use Rattle.texts.specs.Slip.{noSlip, payerLine, slipNumberLine, amountLine, depsLine, depLine, slipLayout, slipIn, slipRead}
-use Rattle.texts.specs.Payee.{Part, source, shown, placed, beforeShop, beforePayee, inRegister, startInRegister, payeeOf, payeePart}
+use Rattle.texts.specs.Payee.{beforeShop, beforePayee, inRegister, startInRegister}
 use Rattle.texts.specs.declared.code.Code.{Code}
 use Rattle.texts.specs.declared.entry.Entry.{Entry}
 use Rattle.texts.specs.declared.register.Register.{Register}
@@ -106,8 +107,8 @@ module _ (r : Register) (fits : registerLayout .legal r ≡ true) (i : ℕ) (h :
   coded : isCode (getD (r .shops) i z .code) ≡ true
   coded = shop-code r (register-fits r fits) i h z
 
-  pub shop-few : getD (r .shops) i z .code .len ≤ 8
-  shop-few = let c = getD (r .shops) i z .code in omega (arith, code-held c coded, eqb-true (length (c .digits)) 8 (both _ _ coded .0))
+  pub shop-few : getD (r .shops) i z .code .len ≤ codePlaces
+  shop-few = let c = getD (r .shops) i z .code in omega (arith, code-held c coded, eqb-true (length (c .digits)) codePlaces (both _ _ coded .0))
 
   pub started-more : (at : ℕ) → Started (r .shops) at i → Started (r .shops) (at + 5 + getD (r .shops) i z .code .len + 8) (i + 1)
   started-more at q =
@@ -196,24 +197,9 @@ module _ (text : List ℕ) (x : RegisterRead) (e : x ≡ registerRead text) wher
 pub position-within : (r : Register) (c : Code) (p : ℕ) → p ≡ position r c → p ≤ r .count
 position-within r c p e = omega (arith, place-within (shopsOf r) c, length-take (r .count) (r .shops))
 
--- ---- the part
+-- ---- the two places where the payee's code stands
 
-abbrev here : List ℕ → Slip → Part
-here register s = record { ofRegister = true; start = startInRegister register (s .payee); size = s .payee .len }
-
-abbrev there : Slip → Part
-there s = record { ofRegister = false; start = length (beforePayee s); size = s .payee .len }
-
-pick : (register : List ℕ) (s : Slip) (t : Bool) → inRegister register (s .payee) ≡ t
-    → payeeOf register s ≡ elim t as (λ _. Part) [ true ↦ here register s | false ↦ there s ]
-unfolding payeeOf
-pick register s t e = ap (λ (t : Bool). elim t as (λ _. Part) [ true ↦ here register s | false ↦ there s ]) e
-
-some-part : (register slip : List ℕ) (s : Slip) → slipIn slip ≡ some s → payeePart register slip ≡ payeeOf register s
-unfolding payeePart
-some-part register slip s e = rw (e, payeePart)
-
-module _ (register slip : List ℕ) (s : Slip) (e : slipIn slip ≡ some s) where
+module _ (slip : List ℕ) (s : Slip) (e : slipIn slip ≡ some s) where
   legal : SlipLegal s
   legal = slip-legal s (slip-only slip s e .0)
 
@@ -221,7 +207,7 @@ module _ (register slip : List ℕ) (s : Slip) (e : slipIn slip ≡ some s) wher
   len = spelled-length (s .payee) (legal .payee)
 
   -- the register lists the payee: the code stands there in its text
-  module _ (i : inRegister register (s .payee) ≡ true) where
+  module _ (register : List ℕ) (i : inRegister register (s .payee) ≡ true) where
     in-text : (rest : List ℕ) × (register ≡ beforeShop (registerRead register .register) (position (registerRead register .register) (s .payee)) ++ (spelled (s .payee) ++ rest))
     in-text =
         let k = both (eqb (registerRead register .answer) 0) _ i in
@@ -231,8 +217,11 @@ module _ (register slip : List ℕ) (s : Slip) (e : slipIn slip ≡ some s) wher
         let f = in-register r (s .payee) R (k .1) in
         (f .0, register-only register (O .register) (O .carried) .1 ∙ ap (registerLayout .text) (sym (O .given)) ∙ f .1)
 
-    pub register-part : payeePart register slip ≡ here register s
-    register-part = some-part register slip s e ∙ pick register s true i
+    pub register-bytes : take (s .payee .len) (drop (startInRegister register (s .payee)) register) ≡ spelled (s .payee)
+    register-bytes =
+        let f = in-text in
+        let r = registerRead register .register in
+        part-of (beforeShop r (position r (s .payee))) (spelled (s .payee)) (f .0) register (s .payee .len) len (f .1)
 
     pub register-room : startInRegister register (s .payee) + s .payee .len ≤ length register
     register-room =
@@ -241,10 +230,9 @@ module _ (register slip : List ℕ) (s : Slip) (e : slipIn slip ≡ some s) wher
         let b = beforeShop r (position r (s .payee)) in
         omega (arith, ap length (f .1) ∙ length-append b (spelled (s .payee) ++ f .0), length-append (spelled (s .payee)) (f .0), len)
 
-  -- it does not: the code stands in the slip's text
-  module _ (i : inRegister register (s .payee) ≡ false) where
-    pub slip-part : payeePart register slip ≡ there s
-    slip-part = some-part register slip s e ∙ pick register s false i
+  -- the slip's text has it
+  pub slip-bytes : take (s .payee .len) (drop (length (beforePayee s)) slip) ≡ spelled (s .payee)
+  slip-bytes = let f = in-slip slip s e in part-of (beforePayee s) (spelled (s .payee)) (f .0) slip (s .payee .len) len (f .1)
 
   pub slip-start : 6 + s .payer .len + 21 ≡ length (beforePayee s)
   slip-start = payee-start s (legal .payer)
@@ -253,67 +241,3 @@ module _ (register slip : List ℕ) (s : Slip) (e : slipIn slip ≡ some s) wher
   slip-room =
       let f = in-slip slip s e in
       omega (arith, slip-start, ap length (f .1) ∙ length-append (beforePayee s) (spelled (s .payee) ++ f .0), length-append (spelled (s .payee)) (f .0), len)
-
-  -- whichever text it is taken from, the part is the bytes of the payee's code
-  pub payee-bytes : shown (payeePart register slip) register slip ≡ spelled (s .payee)
-  payee-bytes = go (inRegister register (s .payee)) refl
-    where
-      go : (t : Bool) → inRegister register (s .payee) ≡ t → shown (payeePart register slip) register slip ≡ spelled (s .payee)
-      go true i =
-          let f = in-text i in
-          let r = registerRead register .register in
-          ap (λ (p : Part). shown p register slip) (register-part i)
-          ∙ part-of (beforeShop r (position r (s .payee))) (spelled (s .payee)) (f .0) register (s .payee .len) len (f .1)
-      go false i =
-          let f = in-slip slip s e in
-          ap (λ (p : Part). shown p register slip) (slip-part i) ∙ part-of (beforePayee s) (spelled (s .payee)) (f .0) slip (s .payee .len) len (f .1)
-
-pub no-payee : (register slip : List ℕ) → slipIn slip ≡ none → payeePart register slip ≡ record { ofRegister = false; start = 0; size = 0 }
-unfolding payeePart
-no-payee register slip e = rw (e, payeePart)
-
--- ---- what the function shows
-
--- the part that is shown starts there, is so long, and lies within its text
-pub record Shows (register slip : List ℕ) (part : Part) : Type 0 where
-  pub is : payeePart register slip ≡ part
-  pub room : part .start + part .size ≤ length (source part register slip)
-
-module _ {register slip : List ℕ} {part : Part} (S : Shows register slip part) where
-  -- its bytes, as the checker cuts them out
-  pub shows-bytes : take (part .start + part .size - part .start) (drop (part .start) (source part register slip)) ≡ shown (payeePart register slip) register slip
-  shows-bytes =
-      let e : part .start + part .size - part .start ≡ part .size = omega arith in
-      ap (λ n. take n (drop (part .start) (source part register slip))) e ∙ ap (λ (p : Part). shown p register slip) (sym (S .is))
-
-  -- its place
-  pub shows-place : (p q : ℕ × ℕ) → placed part p q ≡ placed (payeePart register slip) p q
-  shows-place p q = ap (λ (r : Part). placed r p q) (sym (S .is))
-
-module _ (register slip : List ℕ) (x : SlipRead) (e : x ≡ slipRead slip) where
-  -- no slip: the empty part at the slip's start
-  pub shows-none : (x .answer ≡ 0 → ⊥) → Shows register slip (record { ofRegister = false; start = 0; size = 0 })
-  shows-none h = record { is = no-payee register slip (slip-missing slip x e h); room = omega arith }
-
-  module _ (h : x .answer ≡ 0) (t : Bool) (start : ℕ)
-      (spot : (t ≡ inRegister register (x .slip .payee)) × (t ≡ true → start ≡ startInRegister register (x .slip .payee))) where
-    -- the register lists the payee: there
-    pub shows-listed : t ≡ true → Shows register slip (record { ofRegister = true; start = start; size = x .slip .payee .len })
-    shows-listed y =
-        let carried = slip-carried slip x e h in
-        let i = sym (spot .0) ∙ y in
-        let s = spot .1 y in
-        record {
-          is = register-part register slip (x .slip) carried i ∙ ap (λ n. record { ofRegister = true; start = n; size = x .slip .payee .len }) (sym s);
-          room = omega (arith, register-room register slip (x .slip) carried i);
-        }
-
-    -- it does not: in the slip
-    pub shows-unlisted : t ≡ false → Shows register slip (record { ofRegister = false; start = 6 + x .slip .payer .len + 21; size = x .slip .payee .len })
-    shows-unlisted n =
-        let carried = slip-carried slip x e h in
-        record {
-          is = slip-part register slip (x .slip) carried (sym (spot .0) ∙ n)
-              ∙ ap (λ n. record { ofRegister = false; start = n; size = x .slip .payee .len }) (sym (slip-start register slip (x .slip) carried));
-          room = slip-room register slip (x .slip) carried;
-        }

@@ -9,6 +9,7 @@ use lib.ListN.{length, take, drop, getD, length-take, length-drop, drop-of-lengt
 use lib.Seq.{length-take-le, getD-take}
 use lib.Dec.{ltb}
 use borrow.Author.Tests.{lt-ltb, le-ltb}
+use Rattle.texts.specs.Bounds.{mostShops}
 use Rattle.texts.specs.Code.{sameCode}
 use Rattle.texts.specs.Register.{place, twins, shopsOf, position, listed, ownRows, registerLayout, registerAnswer}
 use Rattle.texts.specs.Answers.{Meaning, answerOf}
@@ -16,8 +17,8 @@ use Rattle.texts.specs.declared.code.Code.{Code}
 use Rattle.texts.specs.declared.entry.Entry.{Entry}
 use Rattle.texts.specs.declared.register.Register.{Register}
 use Rattle.texts.proofs.Legal.{place-head, place-later}
-use Rattle.texts.proofs.Values.{left-of, row-applies, row-passed}
-use Rattle.texts.proofs.Firsts.{no-rows}
+use Rattle.texts.proofs.Values.{left-of}
+use Rattle.texts.proofs.Firsts.{no-rows, applies, passes-by}
 
 -- two numbers stand as two others do, if the one is below the other in both pairs or in neither
 same-order : (a b c d : ℕ) → (a < b → c < d) → (c < d → a < b) → ltb a b ≡ ltb c d
@@ -127,11 +128,11 @@ module _ {shops : List Entry} {n i : ℕ} (s : Single shops n i) where
 -- ---- the shops of a register
 
 -- as many as are counted
-pub size-less : (r : Register) → length (r .shops) ≡ 16 → r .count ≤ 16 → r .count ≡ length (shopsOf r)
+pub size-less : (r : Register) → length (r .shops) ≡ mostShops → r .count ≤ mostShops → r .count ≡ length (shopsOf r)
 size-less r l h = sym (length-take-le (r .count) (r .shops) (omega arith))
 
 -- all, where more are counted
-pub size-all : (r : Register) → length (r .shops) ≡ 16 → 16 < r .count → 16 ≡ length (shopsOf r)
+pub size-all : (r : Register) → length (r .shops) ≡ mostShops → mostShops < r .count → mostShops ≡ length (shopsOf r)
 size-all r l h = omega (arith, length-take (r .count) (r .shops))
 
 -- as many as a list's front has make that front
@@ -162,25 +163,25 @@ module _ (r : Register) (n : ℕ) (h : n ≡ length (shopsOf r)) (t : Bool) (e :
 
   -- equal codes: 12
   pub own-twin : t ≡ true → 12 ≡ answerOf (ownRows r)
-  own-twin y = row-applies Meaning.twin _ _ (sym twins-is ∙ y)
+  own-twin y = sym (applies Meaning.twin _ _ (sym twins-is ∙ y))
 
   module _ (no : t ≡ false) (l : Bool) (d : l ≡ listed r (r .own)) where
     -- none, and the own code is listed: 0
     pub own-fine : l ≡ true → 0 ≡ answerOf (ownRows r)
-    own-fine y = row-passed Meaning.twin _ _ 0 (sym twins-is ∙ no) (row-passed Meaning.shop _ _ 0 (ap not (sym d ∙ y)) (sym no-rows))
+    own-fine y = sym (passes-by Meaning.twin _ _ (sym twins-is ∙ no) ∙ passes-by Meaning.shop _ _ (ap not (sym d ∙ y)) ∙ no-rows)
 
     -- none, and it is not listed: 2
     pub own-not-listed : l ≡ false → 2 ≡ answerOf (ownRows r)
-    own-not-listed y = row-passed Meaning.twin _ _ 2 (sym twins-is ∙ no) (row-applies Meaning.shop _ _ (ap not (sym d ∙ y)))
+    own-not-listed y = sym (passes-by Meaning.twin _ _ (sym twins-is ∙ no) ∙ applies Meaning.shop _ _ (ap not (sym d ∙ y)))
 
 -- the answer, from the test that it has a text
 module _ (r : Register) (f : Bool) (e : f ≡ registerLayout .legal r) where
   -- it has one: the other rows decide
   pub answer-own : f ≡ true → (n : ℕ) → n ≡ answerOf (ownRows r) → n ≡ registerAnswer r
   unfolding registerAnswer
-  answer-own y n h = row-passed Meaning.form _ _ n (ap not (sym e ∙ y)) h
+  answer-own y n h = h ∙ sym (passes-by Meaning.form _ _ (ap not (sym e ∙ y)))
 
   -- it has none: 1
   pub answer-form : f ≡ false → 1 ≡ registerAnswer r
   unfolding registerAnswer
-  answer-form y = row-applies Meaning.form _ _ (ap not (sym e ∙ y))
+  answer-form y = sym (applies Meaning.form _ _ (ap not (sym e ∙ y)))

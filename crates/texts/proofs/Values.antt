@@ -6,23 +6,22 @@ use Prim.Native.Nat.{ℕ, zero, suc, _+_, _-_, _≤_, _<_}
 use native.Mathlib.Omega.{arith}
 use native.Mathlib.Numerals.{add-one}
 use lib.ListN.{length, take, drop, getD, set, replicate, drop-of-length-le, length-map}
-use lib.Seq.{drop-cons, take-nil, drop-nil, take-suc, take-length, drop-length, length-take-le, set-at, append-snoc}
+use lib.Seq.{drop-cons, take-nil, drop-nil, take-suc, take-at, take-length, drop-length, length-take-le, set-at, append-snoc}
 use lib.Dec.{leb, ltb, eqb, eqb·suc-zero, eqb·zero-suc}
-use borrow.Author.Tests.{lt-ltb, le-ltb, le-leb, lt-leb, eq-eqb, ne-eqb, not-true, not-false}
+use borrow.Author.Tests.{lt-ltb, le-ltb, eq-eqb, ne-eqb, not-true, not-false}
+use Rattle.texts.specs.Bounds.{most, mostDeps, mostShops, codePlaces}
 use Rattle.texts.specs.Bytes.{sameBytes, allOf}
 use Rattle.texts.specs.Leaf.{digit}
-use Rattle.texts.specs.Code.{noCode, isCode, sameCode, codeOf}
+use Rattle.texts.specs.Code.{noCode, isCode, sameCode, spelled, codeOf}
 use Rattle.texts.specs.Entries.{isEntry, zeroEntry}
 use Rattle.texts.specs.Register.{shopsLine, shopLines, registerLayout}
 use Rattle.texts.specs.Slip.{slipLayout}
 use Rattle.texts.specs.Inside.{passes}
-use Rattle.texts.specs.Answers.{Meaning, Row, numberOf, answerOf}
 use Rattle.texts.specs.declared.code.Code.{Code}
 use Rattle.texts.specs.declared.entry.Entry.{Entry}
 use Rattle.texts.specs.declared.register.Register.{Register}
 use Rattle.texts.specs.declared.slip.Slip.{Slip}
-use Rattle.texts.proofs.Steps.{and}
-use Rattle.texts.proofs.Firsts.{applies, passes-by}
+use Rattle.texts.proofs.Steps.{and, below, above, within}
 use Rattle.texts.proofs.Legal.{SlipLegal, slip-legal, RegisterFits, register-fits}
 
 -- ---- tests
@@ -39,20 +38,6 @@ skip a b t h e = e ∙ sym (ap (λ x. x && b) h)
 -- a test that fails and passes
 pub clash : (t u : Bool) → t ≡ u → t ≡ false → u ≡ true → ⊥
 clash t u e n y = false≢true (sym n ∙ e ∙ y)
-
--- a number within its bounds, and a further test: below, above, within
-module _ (least n upper : ℕ) (b : Bool) where
-  -- too small
-  below : n < least → (leb least n && leb n upper) && b ≡ false
-  below h = ap (λ t. (t && leb n upper) && b) (lt-leb least n h)
-
-  -- too large
-  above : upper < n → (leb least n && leb n upper) && b ≡ false
-  above h = ap (λ t. t && b) (ap (λ t. leb least n && t) (lt-leb n upper h) ∙ and-false (leb least n))
-
-  -- neither: the further test decides
-  within : least ≤ n → n ≤ upper → (leb least n && leb n upper) && b ≡ b
-  within h l = ap (λ t. t && b) (and _ _ (le-leb least n h) (le-leb n upper l))
 
 -- a place is used or not: the test for that kind of place decides
 pub passes-at : {A : Type 0} (used unused : A → Bool) (t : Bool) (x : A) (r u : Bool) → t ≡ u → r ≡ passes used unused u x → r ≡ passes used unused t x
@@ -166,36 +151,44 @@ unfolding sameCode
 same-len a b e = sym (ap (λ t. t && sameBytes (a .digits) (b .digits)) (ne-eqb (a .len) (b .len) e))
 
 -- a code's places are eight
-module _ (c : Code) (places : length (c .digits) ≡ 8) where
+module _ (c : Code) (places : length (c .digits) ≡ codePlaces) where
   -- what is left to ask of it
-  code-is : isCode c ≡ (leb 1 (c .len) && leb (c .len) 8) && allPass digit (eqb 0) (c .len) (c .digits)
-  code-is = ap (λ t. t && ((leb 1 (c .len) && leb (c .len) 8) && allPass digit (eqb 0) (c .len) (c .digits))) (eq-eqb _ _ places)
+  code-is : isCode c ≡ (leb 1 (c .len) && leb (c .len) codePlaces) && allPass digit (eqb 0) (c .len) (c .digits)
+  code-is = ap (λ t. t && ((leb 1 (c .len) && leb (c .len) codePlaces) && allPass digit (eqb 0) (c .len) (c .digits))) (eq-eqb _ _ places)
 
   -- a code of no digit
   pub code-few : c .len < 1 → false ≡ isCode c
-  code-few h = sym (code-is ∙ below 1 (c .len) 8 (allPass digit (eqb 0) (c .len) (c .digits)) h)
+  code-few h = sym (code-is ∙ below 1 (c .len) codePlaces (allPass digit (eqb 0) (c .len) (c .digits)) h)
 
   -- a code of too many
-  pub code-many : 8 < c .len → false ≡ isCode c
-  code-many h = sym (code-is ∙ above 1 (c .len) 8 (allPass digit (eqb 0) (c .len) (c .digits)) h)
+  pub code-many : codePlaces < c .len → false ≡ isCode c
+  code-many h = sym (code-is ∙ above 1 (c .len) codePlaces (allPass digit (eqb 0) (c .len) (c .digits)) h)
 
   -- its places decide
-  pub code-rest : 1 ≤ c .len → c .len ≤ 8 → (t : Bool) → t ≡ allPass digit (eqb 0) (c .len) (c .digits) → t ≡ isCode c
-  code-rest h l t e = e ∙ sym (code-is ∙ within 1 (c .len) 8 (allPass digit (eqb 0) (c .len) (c .digits)) h l)
+  pub code-rest : 1 ≤ c .len → c .len ≤ codePlaces → (t : Bool) → t ≡ allPass digit (eqb 0) (c .len) (c .digits) → t ≡ isCode c
+  code-rest h l t e = e ∙ sym (code-is ∙ within 1 (c .len) codePlaces (allPass digit (eqb 0) (c .len) (c .digits)) h l)
 
 -- ---- a code from bytes
 
 -- the test that bytes are a code, and what is made of its outcome
 abbrev spells : List ℕ → Bool
-spells s = (leb 1 (length s) && leb (length s) 8) && allOf digit s
+spells s = (leb 1 (length s) && leb (length s) codePlaces) && allOf digit s
 
 abbrev made : List ℕ → Bool → Code
-made s t = elim t [ true ↦ record { digits = s ++ replicate (8 - length s) 0; len = length s } | false ↦ noCode ]
+made s t = elim t [ true ↦ record { digits = s ++ replicate (codePlaces - length s) 0; len = length s } | false ↦ noCode ]
 
 -- the code, from the test
 code-of : (s : List ℕ) (t : Bool) → spells s ≡ t → codeOf s ≡ made s t
 unfolding codeOf
 code-of s t e = ap (made s) e
+
+-- a code made from bytes is those bytes
+pub code-keeps : (s : List ℕ) → isCode (codeOf s) ≡ true → spelled (codeOf s) ≡ s
+code-keeps s h = go (spells s) refl
+  where
+    go : (t : Bool) → spells s ≡ t → spelled (codeOf s) ≡ s
+    go true e = ap spelled (code-of s true e) ∙ take-at s (replicate (codePlaces - length s) 0) (length s) refl
+    go false e = absurd (false≢true (ap isCode (sym (code-of s false e)) ∙ h))
 
 -- bytes that are all digits, as places that are all used
 all-used : (s : List ℕ) → allPass digit (eqb 0) (length s) s ≡ allOf digit s
@@ -203,75 +196,75 @@ unfolding allOf
 all-used s = rw (take-length s, drop-length s) (and-true (allOf digit s))
 
 -- the first i bytes of s stand in eight places, and the bytes from i on decide whether s is a code
-pub record Copied (s ds : List ℕ) (i : ℕ) : Type 0 where
+pub record CodeBegun (s ds : List ℕ) (i : ℕ) : Type 0 where
   pub within : i ≤ length s
-  pub holds : ds ≡ take i s ++ replicate (8 - i) 0
+  pub holds : ds ≡ take i s ++ replicate (codePlaces - i) 0
   pub passed : Passed digit (eqb 0) (length s) s i
 
--- no byte is copied yet
-pub copied-none : (s : List ℕ) → Copied s (replicate 8 0) 0
-copied-none s = record { within = omega arith; holds = refl; passed = passed-none digit (eqb 0) (length s) s }
+-- no byte is taken over yet
+pub begun-none : (s : List ℕ) → CodeBegun s (replicate codePlaces 0) 0
+begun-none s = record { within = omega arith; holds = refl; passed = passed-none digit (eqb 0) (length s) s }
 
-module _ (s ds : List ℕ) (i : ℕ) (c : Copied s ds i) (few : length s ≤ 8) where
+module _ (s ds : List ℕ) (i : ℕ) (c : CodeBegun s ds i) (few : length s ≤ codePlaces) where
   module _ (h : i < length s) (t : Bool) (e : t ≡ digit (getD s i 0)) where
     -- the byte as a place that is used
     is-used : t ≡ passes digit (eqb 0) (ltb i (length s)) (getD s i 0)
     is-used = passes-at digit (eqb 0) (ltb i (length s)) (getD s i 0) t true (lt-ltb i (length s) h) e
 
     -- one more byte in its place
-    one-more : set ds i (getD s i 0) ≡ take (i + 1) s ++ replicate (8 - (i + 1)) 0
+    one-more : set ds i (getD s i 0) ≡ take (i + 1) s ++ replicate (codePlaces - (i + 1)) 0
     one-more =
-        let k : 8 - i ≡ suc (8 - (i + 1)) = omega arith in
-        let rest : List ℕ = replicate (8 - (i + 1)) 0 in
+        let k : codePlaces - i ≡ suc (codePlaces - (i + 1)) = omega arith in
+        let rest : List ℕ = replicate (codePlaces - (i + 1)) 0 in
         let more : take (i + 1) s ≡ take i s ++ (getD s i 0 ∷ []) = rw (add-one, take-suc s i 0) in
         ap (λ l. set l i (getD s i 0)) (c .holds ∙ ap (λ n. take i s ++ replicate n 0) k)
         ∙ set-at (take i s) 0 rest (getD s i 0) i (length-take-le i s (omega arith))
         ∙ sym (ap (λ l. l ++ rest) more ∙ append-snoc (take i s) (getD s i 0) rest)
 
     -- the byte is a digit: one more
-    pub copied-more : not t ≡ false → Copied s (set ds i (getD s i 0)) (i + 1)
-    copied-more y = record {
+    pub begun-more : not t ≡ false → CodeBegun s (set ds i (getD s i 0)) (i + 1)
+    begun-more y = record {
       within = omega arith;
       holds = one-more;
       passed = passed-more (c .passed) 0 h t is-used y;
     }
 
     -- a byte that is no digit
-    pub copied-fails : not t ≡ true → allOf digit s ≡ false
-    copied-fails y = sym (passed-fails (c .passed) 0 h t is-used y ∙ all-used s)
+    pub begun-fails : not t ≡ true → allOf digit s ≡ false
+    begun-fails y = sym (passed-fails (c .passed) 0 h t is-used y ∙ all-used s)
 
   -- no byte is left
-  pub copied-done : length s ≤ i → 1 ≤ length s → record { digits = ds; len = length s } ≡ codeOf s
-  copied-done h l =
+  pub begun-done : length s ≤ i → 1 ≤ length s → record { digits = ds; len = length s } ≡ codeOf s
+  begun-done h l =
       let k : i ≡ length s = omega (arith, c .within) in
       let all = sym (passed-done (c .passed) h ∙ all-used s) in
-      let here : ds ≡ s ++ replicate (8 - length s) 0 = c .holds ∙ ap (λ n. take n s ++ replicate (8 - n) 0) k ∙ ap (λ l. l ++ replicate (8 - length s) 0) (take-length s) in
-      ap (λ d. record { digits = d; len = length s }) here ∙ sym (code-of s true (within 1 (length s) 8 (allOf digit s) l few ∙ all))
+      let here : ds ≡ s ++ replicate (codePlaces - length s) 0 = c .holds ∙ ap (λ n. take n s ++ replicate (codePlaces - n) 0) k ∙ ap (λ l. l ++ replicate (codePlaces - length s) 0) (take-length s) in
+      ap (λ d. record { digits = d; len = length s }) here ∙ sym (code-of s true (within 1 (length s) codePlaces (allOf digit s) l few ∙ all))
 
 -- bytes that are no code
 module _ (s : List ℕ) (none : Code) (e : none ≡ noCode) where
   -- no bytes
   pub no-code-few : length s < 1 → none ≡ codeOf s
-  no-code-few h = e ∙ sym (code-of s false (below 1 (length s) 8 (allOf digit s) h))
+  no-code-few h = e ∙ sym (code-of s false (below 1 (length s) codePlaces (allOf digit s) h))
 
   -- too many
-  pub no-code-many : 8 < length s → none ≡ codeOf s
-  no-code-many h = e ∙ sym (code-of s false (above 1 (length s) 8 (allOf digit s) h))
+  pub no-code-many : codePlaces < length s → none ≡ codeOf s
+  no-code-many h = e ∙ sym (code-of s false (above 1 (length s) codePlaces (allOf digit s) h))
 
   -- one that is no digit
   pub no-code-bad : allOf digit s ≡ false → none ≡ codeOf s
-  no-code-bad d = e ∙ sym (code-of s false (ap (λ t. (leb 1 (length s) && leb (length s) 8) && t) d ∙ and-false (leb 1 (length s) && leb (length s) 8)))
+  no-code-bad d = e ∙ sym (code-of s false (ap (λ t. (leb 1 (length s) && leb (length s) codePlaces) && t) d ∙ and-false (leb 1 (length s) && leb (length s) codePlaces)))
 
 -- ---- entries
 
 module _ (e : Entry) where
   -- the number can stand in a line: the code decides
-  pub entry-fits : e .number ≤ 999999 → isCode (e .code) ≡ isEntry e
-  entry-fits h = sym (ap (λ t. isCode (e .code) && t) (within 0 (e .number) 999999 true (omega arith) h) ∙ and-true (isCode (e .code)))
+  pub entry-fits : e .number ≤ most → isCode (e .code) ≡ isEntry e
+  entry-fits h = sym (ap (λ t. isCode (e .code) && t) (within 0 (e .number) most true (omega arith) h) ∙ and-true (isCode (e .code)))
 
   -- it cannot
-  pub entry-large : 999999 < e .number → false ≡ isEntry e
-  entry-large h = sym (ap (λ t. isCode (e .code) && t) (above 0 (e .number) 999999 true h) ∙ and-false (isCode (e .code)))
+  pub entry-large : most < e .number → false ≡ isEntry e
+  entry-large h = sym (ap (λ t. isCode (e .code) && t) (above 0 (e .number) most true h) ∙ and-false (isCode (e .code)))
 
   -- the number is 0: the code decides
   pub entry-zero : e .number ≡ 0 → (z : Code) → z ≡ noCode → sameCode (e .code) z ≡ zeroEntry e
@@ -288,36 +281,26 @@ pub slip-not : (s : Slip) → (SlipLegal s → ⊥) → false ≡ slipLayout .le
 slip-not s h = fails (slipLayout .legal s) (λ e. h (slip-legal s e))
 
 -- the dependencies decide, where the rest of the slip is legal
-pub slip-rest : (s : Slip) → length (s .deps) ≡ 16 → isCode (s .payer) ≡ true → isCode (s .payee) ≡ true → s .number ≤ 999999 → s .amount ≤ 999999 → s .count ≤ 15
+pub slip-rest : (s : Slip) → length (s .deps) ≡ mostShops → isCode (s .payer) ≡ true → isCode (s .payee) ≡ true → s .number ≤ most → s .amount ≤ most → s .count ≤ mostDeps
     → (t : Bool) → t ≡ allOf isEntry (take (s .count) (s .deps)) && allOf zeroEntry (drop (s .count) (s .deps)) → t ≡ slipLayout .legal s
 unfolding slipLayout
 slip-rest s places payer payee number amount count t e =
     skip _ _ t payer
-    (skip _ _ t (within 0 (s .number) 999999 true (omega arith) number)
+    (skip _ _ t (within 0 (s .number) most true (omega arith) number)
     (skip _ _ t payee
-    (skip _ _ t (within 0 (s .amount) 999999 true (omega arith) amount)
-    (skip _ _ t (within 0 (s .count) 15 true (omega arith) count)
-    (skip _ _ t (eq-eqb (length (s .deps)) 16 places) e)))))
+    (skip _ _ t (within 0 (s .amount) most true (omega arith) amount)
+    (skip _ _ t (within 0 (s .count) mostDeps true (omega arith) count)
+    (skip _ _ t (eq-eqb (length (s .deps)) mostShops places) e)))))
 
 -- a register that some part keeps from having a text
 pub register-not : (r : Register) → (RegisterFits r → ⊥) → false ≡ registerLayout .legal r
 register-not r h = fails (registerLayout .legal r) (λ e. h (register-fits r e))
 
 -- the shops decide, where the rest of the register is legal
-pub register-rest : (r : Register) → length (r .shops) ≡ 16 → 1 ≤ r .count → r .count ≤ 16 → isCode (r .own) ≡ true
+pub register-rest : (r : Register) → length (r .shops) ≡ mostShops → 1 ≤ r .count → r .count ≤ mostShops → isCode (r .own) ≡ true
     → (t : Bool) → t ≡ allOf isEntry (take (r .count) (r .shops)) && allOf zeroEntry (drop (r .count) (r .shops)) → t ≡ registerLayout .legal r
 unfolding registerLayout
-register-rest r places some most own t e =
+register-rest r places some few own t e =
     let shops = shopsLine .legal (r .count) && shopLines (r .count) .legal (r .shops) in
-    let f : t ≡ shops = skip _ _ t (within 1 (r .count) 16 true some most) (skip _ _ t (eq-eqb (length (r .shops)) 16 places) e) in
+    let f : t ≡ shops = skip _ _ t (within 1 (r .count) mostShops true some few) (skip _ _ t (eq-eqb (length (r .shops)) mostShops places) e) in
     f ∙ sym (ap (λ b. shops && b) own ∙ and-true shops)
-
--- ---- the first that applies
-
--- a row that applies gives its number
-pub row-applies : (m : Meaning) (t : Bool) (rows : List Row) → t ≡ true → numberOf m ≡ answerOf ((m, t) ∷ rows)
-row-applies m t rows h = sym (applies m t rows h)
-
--- one that does not leaves the answer to the others
-pub row-passed : (m : Meaning) (t : Bool) (rows : List Row) (n : ℕ) → t ≡ false → n ≡ answerOf rows → n ≡ answerOf ((m, t) ∷ rows)
-row-passed m t rows n h e = e ∙ sym (passes-by m t rows h)

@@ -17,7 +17,6 @@ use Rattle.texts.specs.declared.pen.Written.{Written}
 use Rattle.texts.specs.declared.register.Register.{Register}
 use Rattle.texts.specs.declared.slip.Slip.{Slip}
 use Rattle.texts.proofs.Firsts.{first-zero, no-rows, applies, passes-by}
-use Rattle.texts.proofs.Values.{row-applies, row-passed}
 use Rattle.texts.proofs.Lengths.{register-most, slip-most}
 use Rattle.texts.proofs.Writing.{wrote-over}
 
@@ -77,10 +76,10 @@ slip-writable s d t h e f = let fits = sym e ∙ f in (fits, record { fits = ome
 
 module _ (fits t : Bool) (e : t ≡ fits) where
   pub slip-fine : t ≡ true → 0 ≡ answerOf ((form, not fits) ∷ [])
-  slip-fine y = row-passed form _ [] 0 (ap not (sym e ∙ y)) (sym no-rows)
+  slip-fine y = sym (passes-by form _ [] (ap not (sym e ∙ y)) ∙ no-rows)
 
   pub slip-unfit : t ≡ false → 1 ≡ answerOf ((form, not fits) ∷ [])
-  slip-unfit n = row-applies form _ [] (ap not (sym e ∙ n))
+  slip-unfit n = sym (applies form _ [] (ap not (sym e ∙ n)))
 
 -- a slip that fits, and a buffer that is large enough: answer 0
 pub slip-zero : (s : Slip) (d : List ℕ) → slipRoom ≤ length d → slipLayout .legal s ≡ true → slipWriteAnswer s d ≡ 0

@@ -35,7 +35,8 @@ sameCode a b = eqb (a .len) (b .len) && sameBytes (a .digits) (b .digits)
 abbrev pub spelled : Code → List ℕ
 spelled c = take (c .len) (c .digits)
 
--- A code handed in as bytes of any kind and any number: bytes that are no code give the code of zeros, which no register lists.
+-- A code handed in as bytes of any kind and any number: bytes that are no code give the code of zeros, which no
+-- legal register lists.
 unfoldable pub codeOf : List ℕ → Code
 codeOf s =
     elim ((leb 1 (length s) && leb (length s) codePlaces) && allOf digit s) [

@@ -10,6 +10,7 @@ use Rattle.texts.specs.Bytes.{allOf, _>>=_, given}
 
 pub record Layout (A : Type 0) : Type 0 where
   pub text : A → List ℕ
+  -- can a text carry it (a register that one can carry may still be refused: 12, 2)
   pub legal : A → Bool
   -- the value whose text stands at the front, and what stands after it
   pub read : List ℕ → Option (A × List ℕ)

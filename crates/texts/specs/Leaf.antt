@@ -26,13 +26,13 @@ unfoldable pub numeral : ℕ → List ℕ → Option (ℕ × List ℕ)
 numeral zero s = some (0, s)
 numeral (suc w) s = numeral w s >>= λ p. oneMore (p .0) (p .1)
 
--- A number from `least` to `most`, at this width.
+-- A number from `least` to `upper`, at this width.
 abbrev pub number : ℕ → ℕ → ℕ → Layout ℕ
-number width least most =
+number width least upper =
     record {
       text = digits width;
-      legal = λ n. leb least n && leb n most;
-      read = λ s. numeral width s >>= λ p. given (leb least (p .0) && leb (p .0) most) p;
+      legal = λ n. leb least n && leb n upper;
+      read = λ s. numeral width s >>= λ p. given (leb least (p .0) && leb (p .0) upper) p;
     }
 
 -- The digits at the front, at most n of them, and what stands after them.

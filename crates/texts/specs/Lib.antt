@@ -8,9 +8,9 @@ pub mod Lines
 pub mod Entries
 pub mod Answers
 pub mod Written
-pub mod Page
 pub mod Register
 pub mod Slip
 pub mod Payee
-pub mod Inside
+pub mod Page
 pub mod Promises
+pub mod Inside

@@ -19,17 +19,6 @@ pub record Part : Type 0 where
   pub start : ℕ
   pub size : ℕ
 
--- The text that it is a part of, and its bytes.
-abbrev pub source : Part → List ℕ → List ℕ → List ℕ
-source p register slip = elim (p .ofRegister) [ true ↦ register | false ↦ slip ]
-
-abbrev pub shown : Part → List ℕ → List ℕ → List ℕ
-shown p register slip = take (p .size) (drop (p .start) (source p register slip))
-
--- Where a part stands in memory, from where the two texts stand there.
-abbrev pub placed : Part → ℕ × ℕ → ℕ × ℕ → ℕ × ℕ
-placed p register slip = elim (p .ofRegister) [ true ↦ (register .0, p .start + register .1) | false ↦ (slip .0, p .start + slip .1) ]
-
 -- What stands before the code of the shop at a position, in the register's text.
 abbrev pub beforeShop : Register → ℕ → List ℕ
 beforeShop r p = shopsLine .text (r .count) ++ joined shopLine (take p (r .shops)) ++ bytes "shop="
@@ -58,3 +47,16 @@ payeeOf register s =
 unfoldable pub payeePart : List ℕ → List ℕ → Part
 payeePart register slip =
     elim (slipIn slip) [ none ↦ record { ofRegister = false; start = 0; size = 0 } | some s ↦ payeeOf register s ]
+
+-- ---- its bytes, and its place in memory
+
+-- The text that it is a part of, and its bytes.
+abbrev pub source : Part → List ℕ → List ℕ → List ℕ
+source p register slip = elim (p .ofRegister) [ true ↦ register | false ↦ slip ]
+
+abbrev pub shown : Part → List ℕ → List ℕ → List ℕ
+shown p register slip = take (p .size) (drop (p .start) (source p register slip))
+
+-- Where a part stands in memory, from where the two texts stand there.
+abbrev pub placed : Part → ℕ × ℕ → ℕ × ℕ → ℕ × ℕ
+placed p register slip = elim (p .ofRegister) [ true ↦ (register .0, p .start + register .1) | false ↦ (slip .0, p .start + slip .1) ]

@@ -1,20 +1,51 @@
 -- What is promised of reading and writing together, beside each function's own statement. The proofs are in proofs/Promises.
 use mathlib.Core.Path.{_≡_}
-use mathlib.Core.Bool.{true, false}
+use mathlib.Core.Bool.{Bool, true, false}
 use mathlib.Core.Option.{some}
-use mathlib.Core.List.{List, []}
+use mathlib.Core.List.{List, [], _∷_}
 use Prim.Native.Nat.{ℕ, _≤_}
 use lib.ListN.{length, take}
 use Rattle.texts.specs.Bounds.{registerRoom, slipRoom}
+use Rattle.texts.specs.Bytes.{sameBytes}
 use Rattle.texts.specs.Layout.{Layout, whole}
 use Rattle.texts.specs.Answers.{why}
 use Rattle.texts.specs.Written.{over}
-use Rattle.texts.specs.Register.{registerLayout, listed, registerRead, registerWriteAnswer, registerWritten, registerBuffer}
-use Rattle.texts.specs.Slip.{slipLayout, slipIn, slipRead, slipWriteAnswer, slipWritten, slipBuffer}
-use Rattle.texts.specs.Code.{spelled}
-use Rattle.texts.specs.Payee.{shown, payeePart}
+use Rattle.texts.specs.Register.{registerLayout, listed, registerRows, registerAnswer, registerRead, registerWriteRows, registerWriteAnswer, registerWritten, registerBuffer}
+use Rattle.texts.specs.Slip.{slipLayout, slipIn, readRows, slipRead, slipWriteRows, slipWriteAnswer, slipWritten, slipBuffer}
+use Rattle.texts.specs.Answers.{numbersOf}
+use Rattle.texts.specs.Code.{isCode, sameCode, spelled, codeOf}
+use Rattle.texts.specs.Payee.{beforePayee, startInRegister, payeePart, shown}
+use Rattle.texts.specs.declared.code.Code.{Code}
 use Rattle.texts.specs.declared.register.Register.{Register}
 use Rattle.texts.specs.declared.slip.Slip.{Slip}
+
+-- ---- "Register: 1, 12, 2." "Writing a register: 11, 1, 12, 2. Writing a slip: 11, 1. Reading a slip: 1."
+
+abbrev pub RegisterOrder : Type 0
+RegisterOrder = (fits : Bool) (r : Register) → numbersOf (registerRows fits r) ≡ 1 ∷ 12 ∷ 2 ∷ []
+
+abbrev pub RegisterWriteOrder : Type 0
+RegisterWriteOrder = (r : Register) (buffer : List ℕ) → numbersOf (registerWriteRows r buffer) ≡ 11 ∷ 1 ∷ 12 ∷ 2 ∷ []
+
+abbrev pub SlipWriteOrder : Type 0
+SlipWriteOrder = (s : Slip) (buffer : List ℕ) → numbersOf (slipWriteRows s buffer) ≡ 11 ∷ 1 ∷ []
+
+abbrev pub SlipReadOrder : Type 0
+SlipReadOrder = (text : List ℕ) → numbersOf (readRows text) ≡ 1 ∷ []
+
+-- ---- codes: "compared byte by byte, length included"
+
+-- Two codes are the same where their bytes are, and then they are one value.
+abbrev pub SameByBytes : Type 0
+SameByBytes = (a b : Code) → isCode a ≡ true → isCode b ≡ true → sameCode a b ≡ sameBytes (spelled a) (spelled b)
+
+-- A code that comes in as bytes keeps them, every leading zero too.
+abbrev pub SpelledBack : Type 0
+SpelledBack = (s : List ℕ) → isCode (codeOf s) ≡ true → spelled (codeOf s) ≡ s
+
+-- Bytes that are no code are not in the register.
+abbrev pub NoCodeUnlisted : Type 0
+NoCodeUnlisted = (r : Register) (s : List ℕ) → registerAnswer r ≡ 0 → isCode (codeOf s) ≡ false → listed r (codeOf s) ≡ false
 
 -- ---- "Reading a slip gives back what writing put in, and each slip has one text": said once, of any layout
 
@@ -54,7 +85,7 @@ RegisterWritesBack =
 abbrev pub SlipWritesBack : Type 0
 SlipWritesBack = (text buffer : List ℕ) → slipRead text .answer ≡ 0 → slipRoom ≤ length buffer → slipBuffer (slipRead text .slip) buffer ≡ over text buffer
 
--- ---- "A refusal returns its number with count 0; lent bytes keep their values."
+-- ---- "A refusal returns its number with count and balance 0; ... lent bytes keep their values."
 
 abbrev pub RegisterRefusalKeeps : Type 0
 RegisterRefusalKeeps =
@@ -86,13 +117,24 @@ EmptyTextRefused = (registerRead [] .answer ≡ 1) × (slipRead [] .answer ≡ 1
 abbrev pub PayeeExact : Type 0
 PayeeExact = (register slip : List ℕ) (s : Slip) → slipIn slip ≡ some s → shown (payeePart register slip) register slip ≡ spelled (s .payee)
 
--- "as the part of the register text where that shop is listed, otherwise as the part of the slip text"
+-- "as the part of the register text where that shop is listed": in its `shop=` line, never in `own=`
 abbrev pub ListedInRegister : Type 0
 ListedInRegister =
     (register slip : List ℕ) (s : Slip) → slipIn slip ≡ some s → registerRead register .answer ≡ 0 → listed (registerRead register .register) (s .payee) ≡ true
-    → payeePart register slip .ofRegister ≡ true
+    → payeePart register slip ≡ record { ofRegister = true; start = startInRegister register (s .payee); size = s .payee .len }
+
+-- "otherwise as the part of the slip text"
+abbrev pub UnlistedInSlip : Type 0
+UnlistedInSlip =
+    (register slip : List ℕ) (s : Slip) → slipIn slip ≡ some s → listed (registerRead register .register) (s .payee) ≡ false
+    → payeePart register slip ≡ record { ofRegister = false; start = length (beforePayee s); size = s .payee .len }
 
 -- "If the register would be refused, it is the slip's part."
 abbrev pub RefusedInSlip : Type 0
 RefusedInSlip =
-    (register slip : List ℕ) → (registerRead register .answer ≡ 0 → ⊥) → payeePart register slip .ofRegister ≡ false
+    (register slip : List ℕ) (s : Slip) → slipIn slip ≡ some s → (registerRead register .answer ≡ 0 → ⊥)
+    → payeePart register slip ≡ record { ofRegister = false; start = length (beforePayee s); size = s .payee .len }
+
+-- "If the slip has answer 1, it is the empty part at the slip's start."
+abbrev pub EmptyWithoutSlip : Type 0
+EmptyWithoutSlip = (register slip : List ℕ) → slipRead slip .answer ≡ 1 → payeePart register slip ≡ record { ofRegister = false; start = 0; size = 0 }

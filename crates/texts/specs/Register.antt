@@ -81,15 +81,16 @@ position r c = place (shopsOf r) c
 abbrev pub listed : Register → Code → Bool
 listed r c = among (shopsOf r) c
 
--- ---- answers: "Register: 1, 12, 2." "Writing a register: 11, 1, 12, 2."
+-- ---- answers
 
 abbrev pub ownRows : Register → List Row
 ownRows r = (twin, twins (shopsOf r)) ∷ (shop, not (listed r (r .own))) ∷ []
 
+-- "Register: 1, 12, 2."
 abbrev pub registerRows : Bool → Register → List Row
 registerRows fits r = (form, not fits) ∷ ownRows r
 
--- A legal register.
+-- The answer to a register as a value; 0: it is a legal one.
 unfoldable pub registerAnswer : Register → ℕ
 registerAnswer r = answerOf (registerRows (registerLayout .legal r) r)
 
@@ -104,9 +105,12 @@ registerRead text =
       register = elim (registerTextAnswer text) [ zero ↦ orZeros noRegister (registerIn text) | suc n ↦ noRegister ];
     }
 
--- "a lent buffer of at least 358 bytes"
+-- "Writing a register: 11, 1, 12, 2."
+abbrev pub registerWriteRows : Register → List ℕ → List Row
+registerWriteRows r buffer = (room, ltb (length buffer) registerRoom) ∷ registerRows (registerLayout .legal r) r
+
 unfoldable pub registerWriteAnswer : Register → List ℕ → ℕ
-registerWriteAnswer r buffer = answerOf ((room, ltb (length buffer) registerRoom) ∷ registerRows (registerLayout .legal r) r)
+registerWriteAnswer r buffer = answerOf (registerWriteRows r buffer)
 
 abbrev pub registerWritten : Register → List ℕ → Written
 registerWritten r buffer = answered (registerWriteAnswer r buffer) (registerLayout .text r)

@@ -6,13 +6,13 @@ use mathlib.Core.List.{List, [], _∷_}
 use Prim.Native.Nat.{ℕ}
 use lib.ListN.{length, take, replicate}
 use lib.Dec.{ltb}
-use Rattle.texts.specs.Bounds.{mostShops, mostDeps, most, slipRoom}
+use Rattle.texts.specs.Bounds.{mostShops, mostDeps, slipRoom}
 use Rattle.texts.specs.Bytes.{bytes, found, orZeros}
-use Rattle.texts.specs.Layout.{Layout, _⟫_, _then_, of, whole}
+use Rattle.texts.specs.Layout.{Layout, _⟫_, _then_, of, key, whole}
 use Rattle.texts.specs.Code.{noCode}
-use Rattle.texts.specs.Lines.{codeLine, numberLine}
+use Rattle.texts.specs.Lines.{six, codeLine, numberLine}
 use Rattle.texts.specs.Entries.{noEntry, entryLine, entryLines}
-use Rattle.texts.specs.Answers.{form, room, answerOf}
+use Rattle.texts.specs.Answers.{Row, form, room, answerOf}
 use Rattle.texts.specs.Written.{answered, buffered}
 use Rattle.texts.specs.declared.code.Code.{Code}
 use Rattle.texts.specs.declared.entry.Entry.{Entry}
@@ -31,13 +31,13 @@ abbrev pub payerLine : Layout Code
 payerLine = codeLine (bytes "payer=")
 
 abbrev pub slipNumberLine : Layout ℕ
-slipNumberLine = numberLine (bytes "number=") 6 0 most
+slipNumberLine = key (bytes "number=") six
 
 abbrev pub payeeLine : Layout Code
 payeeLine = codeLine (bytes "payee=")
 
 abbrev pub amountLine : Layout ℕ
-amountLine = numberLine (bytes "amount=") 6 0 most
+amountLine = key (bytes "amount=") six
 
 abbrev pub depsLine : Layout ℕ
 depsLine = numberLine (bytes "deps=") 2 0 mostDeps
@@ -79,15 +79,22 @@ slipIn text = whole slipLayout text
 abbrev pub depsOf : Slip → List Entry
 depsOf s = take (s .count) (s .deps)
 
--- ---- answers: "Reading a slip: 1." "Writing a slip: 11, 1."
+-- ---- answers
+
+-- "Reading a slip: 1."
+abbrev pub readRows : List ℕ → List Row
+readRows text = (form, not (found (slipIn text))) ∷ []
 
 -- "a slip text refused by the reader gives a slip of zeros"
 unfoldable pub slipRead : List ℕ → SlipRead
-slipRead text = record { answer = answerOf ((form, not (found (slipIn text))) ∷ []); slip = orZeros noSlip (slipIn text) }
+slipRead text = record { answer = answerOf (readRows text); slip = orZeros noSlip (slipIn text) }
 
--- "a lent buffer of at least 366 bytes"
+-- "Writing a slip: 11, 1."
+abbrev pub slipWriteRows : Slip → List ℕ → List Row
+slipWriteRows s buffer = (room, ltb (length buffer) slipRoom) ∷ (form, not (slipLayout .legal s)) ∷ []
+
 unfoldable pub slipWriteAnswer : Slip → List ℕ → ℕ
-slipWriteAnswer s buffer = answerOf ((room, ltb (length buffer) slipRoom) ∷ (form, not (slipLayout .legal s)) ∷ [])
+slipWriteAnswer s buffer = answerOf (slipWriteRows s buffer)
 
 abbrev pub slipWritten : Slip → List ℕ → Written
 slipWritten s buffer = answered (slipWriteAnswer s buffer) (slipLayout .text s)

@@ -1,5 +1,5 @@
 -- What a write answers and leaves: "The count in the answer is the text's length", "Bytes after the text keep their values",
--- "A refusal returns its number with count 0 and lent bytes keep their values".
+-- "A refusal returns its number with count and balance 0; ... lent bytes keep their values" (a write has no balance to give).
 use mathlib.Core.List.{List, _++_}
 use Prim.Native.Nat.{ℕ, zero, suc}
 use lib.ListN.{length, drop}

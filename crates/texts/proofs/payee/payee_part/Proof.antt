@@ -6,7 +6,7 @@ use denote.Ref.{now, ptr}
 use borrow.Author.Needs.{needs}
 use mathlib.Core.Bool.{true, false}
 use Prim.Native.Nat.{_+_}
-use Rattle.texts.proofs.Payees.{Shows, shows-bytes, shows-place, shows-none, shows-listed, shows-unlisted}
+use Rattle.texts.proofs.Showing.{Shows, shows-bytes, shows-place, shows-none, shows-listed, shows-unlisted}
 use Rattle.texts.proofs.payee.payee_part.Statement.{statement}
 use Rattle.texts.proofs.payee.payee_part.Tie as tie
 

@@ -49,12 +49,12 @@ loop-again : tie.Need-loop-again Inv-loop μ-loop
 loop-again c =
     let now = c .before .before .before .before .before .loop in
     let more = sym (c .before .before .before .is-over .ensures) ∙ c .before .before .if1 .left in
-    let fresh = now .self .fresh in
+    let begins = now .self .begins in
     let byte = getD (c .before .before .before .before .before .before .before .before .args .window .now) (now .i) 0 in
     ⊎-elim
     (λ w. feeding-same (w .5) (w .6) (w .7) (feeding-ended (now .inv) (omega arith) more (and _ _ (w .0 .taken) (w .1 .taken)) (w .3 .ensures)))
     (λ w. feeding-same (w .2) (w .3) (w .4) (feeding-kept (now .inv) (omega arith) more
-    (⊎-elim (λ v. other-byte fresh byte (v .1 .left)) (λ v. no-line fresh byte (v .left)) (w .0 .came))
+    (⊎-elim (λ v. other-byte begins byte (v .1 .left)) (λ v. no-line begins byte (v .left)) (w .0 .came))
     (⊎-elim (λ v. keeps-room (now .self) _ _ (v .0 .taken) (v .1)) (λ v. keeps-none (now .self) _ _ (v .0 .left) (v .1)) (w .1 .came))))
     (c .if2 .came)
 

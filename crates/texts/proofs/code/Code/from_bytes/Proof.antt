@@ -2,12 +2,12 @@
 use Prim.Native.Nat.{_-_}
 use lib.ListN.{length}
 use borrow.Author.Needs.{needs}
-use Rattle.texts.proofs.Values.{Copied, copied-none, copied-more, copied-fails, copied-done, no-code-few, no-code-many, no-code-bad}
+use Rattle.texts.proofs.Values.{CodeBegun, begun-none, begun-more, begun-fails, begun-done, no-code-few, no-code-many, no-code-bad}
 use Rattle.texts.proofs.code.Code.from_bytes.Statement.{statement}
 use Rattle.texts.proofs.code.Code.from_bytes.Tie as tie
 
 abbrev Inv-loop : tie.InvT-loop
-Inv-loop s none n digits₀ i₀ digits i = Copied s digits i
+Inv-loop s none n digits₀ i₀ digits i = CodeBegun s digits i
 
 abbrev μ-loop : tie.MeasureT-loop
 μ-loop s none n digits₀ i₀ digits i = length s - i
@@ -22,7 +22,7 @@ returns-2 : tie.Need-returns-2 Inv-loop μ-loop
 returns-2 c = no-code-many _ _ (c .before .before .none .ensures) (c .if2 .taken)
 
 loop-holds : tie.Need-loop-holds Inv-loop μ-loop
-loop-holds c = copied-none _
+loop-holds c = begun-none _
 
 shared-slice-read-b : tie.Need-shared-slice-read-b Inv-loop μ-loop
 shared-slice-read-b c = search needs
@@ -34,7 +34,7 @@ returns-3 : tie.Need-returns-3 Inv-loop μ-loop
 returns-3 c =
     let s = c .before .before .before .before .before .before .before .before .before .args .s .now in
     let at-loop = c .before .before .before .before .loop in
-    let bad = copied-fails s (at-loop .digits) (at-loop .i) (at-loop .inv) (search needs) (search needs) _ (c .before .is-digit .ensures) (c .if3 .taken) in
+    let bad = begun-fails s (at-loop .digits) (at-loop .i) (at-loop .inv) (search needs) (search needs) _ (c .before .is-digit .ensures) (c .if3 .taken) in
     no-code-bad s _ (c .before .before .before .before .before .before .before .none .ensures) bad
 
 array-write-digits : tie.Need-array-write-digits Inv-loop μ-loop
@@ -50,10 +50,10 @@ loop-again : tie.Need-loop-again Inv-loop μ-loop
 loop-again c =
     let s = c .before .before .before .before .before .before .before .before .before .args .s .now in
     let at-loop = c .before .before .before .before .loop in
-    copied-more s (at-loop .digits) (at-loop .i) (at-loop .inv) (search needs) (search needs) _ (c .before .is-digit .ensures) (c .if3 .left)
+    begun-more s (at-loop .digits) (at-loop .i) (at-loop .inv) (search needs) (search needs) _ (c .before .is-digit .ensures) (c .if3 .left)
 
 returns-4 : tie.Need-returns-4 Inv-loop μ-loop
-returns-4 c = copied-done _ (c .before .loop .digits) (c .before .loop .i) (c .before .loop .inv) (search needs) (search needs) (search needs)
+returns-4 c = begun-done _ (c .before .loop .digits) (c .before .loop .i) (c .before .loop .inv) (search needs) (search needs) (search needs)
 
 pub from-bytes-spec : {M : Type 1} → statement M
 from-bytes-spec =
