@@ -11,7 +11,7 @@ use borrow.Author.Tests.{lt-leb, ne-eqb}
 use Rattle.replica.specs.declared.record.Replica.{Replica}
 use Rattle.replica.specs.declared.outcome.Outcome.{Outcome}
 use Rattle.replica.specs.Record.{noReplica}
-use Rattle.replica.specs.Open.{opened, begins}
+use Rattle.replica.specs.Open.{opened}
 use Rattle.replica.proofs.Promises.{opens-lawful, refused-gives-zeros, zeros-unlawful}
 use Rattle.desk.specs.declared.desk.Desk.{Desk}
 use Rattle.desk.specs.Bounds.{mostSlips, mostKept}
