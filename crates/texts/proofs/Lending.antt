@@ -20,7 +20,7 @@ use types.Run.{Opd, Opds, forget, lit, no-more, and-then}
 use types.Share.{arr-parts}
 use types.Tokens.{lft-new, lft-end, lent-back}
 use denote.RattleType.{RattleType, Denots, Valss, owns}
-use denote.Laws.{Is, Typed, shows, Tells}
+use denote.Laws.{Is, Typed, shows}
 use denote.Array.{Array, arrayVal, each, array-typed, array-makes}
 use denote.ArrayMemory.{array-apart, array-whole}
 use denote.Builtin.{u8}
@@ -31,11 +31,12 @@ use denote.Ref.{RefT}
 use denote.Shadow.{shadow}
 use denote.Slice.{sliceVal, ShrSlice, Room, shr-slice-copy}
 use denote.Steps.{only, facts, heard, owned, nothing}
+use denote.Struct.Declared.{row}
 use denote.Struct.Laws as LL
 use denote.Triple.Statement.{Contract, Triple}
 use denote.Triple.Call.{calls-at}
 use Rattle.texts.specs.declared.reader.Reader.{Reader}
-use Rattle.texts.proofs.Walking.{Whole, together}
+use Rattle.texts.proofs.Walking.{Whole, together, Answer, Kind, Right, made}
 use Rattle.texts.proofs.cursor.Cursor as Place
 use Rattle.texts.proofs.cursor.Cursor.Laws as Place′
 
@@ -155,14 +156,14 @@ module _ {M : Type 1} {𝓤 : URA M} {H : Heap 𝓤} {A : Atoms 𝓤} {K : Type 
   pub line : K → FmC 𝓤 H (W .laws) C → (κ : Lft) (p : Share) (d : Reader) → Is Place.the-row (d .at) (Place′.lowered (d .at) ∷ [])
       → (w : List ℕ) (l : ℕ) → Holds (all-bytes w) → Room u8 (length w) → (n : ℕ) → nth 𝓤 H A n Γ ≡ ‵ (Word w l) → ((i : Item 𝓤) → nth 𝓤 H A n (put 𝓤 H A n i Γ) ≡ i)
       → (Rs : List RattleType) (a : Denots Rs) (vss : Valss Rs) → ent 𝓤 (emp 𝓤) (sem 𝓤 H A (owns Rs a vss)) → (required : SProp 𝓤) → ent 𝓤 (emp 𝓤) required
-      → (R : RattleType) (val : R .Denot → Val) → Tells R (Is R) (λ r. val r ∷ []) → (X : Lft → GName → Type 0) (P : (κ′ : Lft) (γ : GName) → X κ′ γ → Fml) (φ : R .Denot → Type 0)
+      → (R : Kind) (X : Lft → GName → Type 0) (P : (κ′ : Lft) (γ : GName) → X κ′ γ → Fml) (φ : R .type .D → Type 0)
       → (c : Contract 𝓤) → Triple 𝓤 (C f) c → (x : Lft → GName → c .Ghost)
       → ((κ′ : Lft) (γ : GName) → ent 𝓤 (sep 𝓤 (sep 𝓤 (mean 𝓤 H A (Tokens 𝓤 κ p κ′)) (sem 𝓤 H A (Passed κ d w l κ′ γ Rs a vss))) required) (c .pre (x κ′ γ)))
-      → ((κ′ : Lft) (γ : GName) (u : Val) → ent 𝓤 (c .post (x κ′ γ) u) (H .⇛ (ex 𝓤 (λ (r : R .Denot). sep 𝓤 (sep 𝓤 (mean 𝓤 H A (Tokens 𝓤 κ p κ′)) (sem 𝓤 H A (R .own r (u ∷ [])))) (ex 𝓤 (λ (z : X κ′ γ). sep 𝓤 (sem 𝓤 H A (P κ′ γ z)) (fact 𝓤 (φ r))))))))
+      → ((κ′ : Lft) (γ : GName) (u : Val) → ent 𝓤 (c .post (x κ′ γ) u) (H .⇛ (Answer 𝓤 H A (row (R .type)) u (mean 𝓤 H A (Tokens 𝓤 κ p κ′)) (P κ′ γ) φ)))
       → ((κ′ : Lft) (γ : GName) → Opds K W (raw (c .pre (x κ′ γ)) ∷ ‵ (Text κ d) ∷ put 𝓤 H A n (‵ (flent κ′ (Loan 𝓤 H A W w l))) Γ) E xs (c .args (x κ′ γ)))
-      → ((r : R .Denot) → φ r → Is R r (val r ∷ []) → Seq K W (‵ (Text κ d) ∷ ‵ (flft κ p) ∷ put 𝓤 H A n (‵ (WordRoom w l)) Γ) (lands C Λ E to (val r) rest q))
+      → ((r : R .type .D) → φ r → Right R r → Seq K W (‵ (Text κ d) ∷ ‵ (flft κ p) ∷ put 𝓤 H A n (‵ (WordRoom w l)) Γ) (lands C Λ E to (R .lowers .lowered r) rest q))
       → Seq K W (‵ (Text κ d) ∷ ‵ (flft κ p) ∷ Γ) (runs C Λ E (seq (call f xs to) rest) q)
-  line t fm κ p d place w l bytes room n there back Rs a vss plain required met R val tells X P φ c known x asks gives opds k =
+  line t fm κ p d place w l bytes room n there back Rs a vss plain required met R X P φ c known x asks gives opds k =
       let text : Item 𝓤 = ‵ (Text κ d) in
       let loan : Lft → Item 𝓤 = λ κ′. ‵ (flent κ′ (Loan 𝓤 H A W w l)) in
       gathered (text ∷ ‵ (flft κ p) ∷ []) Γ $ move t (2 ∷ []) $
@@ -179,8 +180,8 @@ module _ {M : Type 1} {𝓤 : URA M} {H : Heap 𝓤} {A : Atoms 𝓤} {K : Type 
       (via 𝓤 _ (sets-out κ d w l κ′ γ Rs a vss 𝓤 H A W p required place plain met) (asks κ′ γ)) $
       scattered (raw (c .pre (x κ′ γ)) ∷ text ∷ []) lent $
       calls-at t fm c known (x κ′ γ) (opds κ′ γ) (λ u.
-      use1 W (later (some (λ (r : R .Denot). (Tokens 𝓤 κ p κ′ ⊛ ‵ (R .own r (u ∷ []))) ⊛ raw (ex 𝓤 (λ (z : X κ′ γ). sep 𝓤 (sem 𝓤 H A (P κ′ γ z)) (fact 𝓤 (φ r))))))) (gives κ′ γ u) $ await t tt $ pick t (λ r.
-      split t $ move t (1 ∷ []) $ use1 W (raw (fact 𝓤 (φ r))) (exE 𝓤 _ (λ z. snd∗ 𝓤 (sem 𝓤 H A (P κ′ γ z)) (fact 𝓤 (φ r)))) $ heard t (φ r) (λ e. split t $ move t (1 ∷ []) $ facts t R (Is R) (shows 𝓤 H A R) r (u ∷ []) (λ is.
+      use1 W (later (some (λ (r : R .type .D). (Tokens 𝓤 κ p κ′ ⊛ ‵ (row (R .type) .own r (u ∷ []))) ⊛ raw (ex 𝓤 (λ (z : X κ′ γ). sep 𝓤 (sem 𝓤 H A (P κ′ γ z)) (fact 𝓤 (φ r))))))) (gives κ′ γ u) $ await t tt $ pick t (λ r.
+      split t $ move t (1 ∷ []) $ use1 W (raw (fact 𝓤 (φ r))) (exE 𝓤 _ (λ z. snd∗ 𝓤 (sem 𝓤 H A (P κ′ γ z)) (fact 𝓤 (φ r)))) $ heard t (φ r) (λ e. split t $ move t (1 ∷ []) $ facts t (row (R .type)) (Is (row (R .type))) (shows 𝓤 H A (row (R .type))) r (u ∷ []) (λ is.
       gathered (Tokens 𝓤 κ p κ′ ∷ text ∷ []) lent $ split t $ move t (1 ∷ []) $ split t $ lft-end t tt $ move t (4 ∷ []) $
       use1 W (loan κ′ ⊛ raw (⋆ 𝓤 H A (del 𝓤 H A n lent)))
       (subst (λ (i : Item 𝓤). ent 𝓤 (⋆ 𝓤 H A lent) (sep 𝓤 (mean 𝓤 H A i) (⋆ 𝓤 H A (del 𝓤 H A n lent)))) (back (loan κ′)) (pull 𝓤 H A n lent)) $ split t $
@@ -189,4 +190,4 @@ module _ {M : Type 1} {𝓤 : URA M} {H : Heap 𝓤} {A : Atoms 𝓤} {K : Type 
       use2 W (raw (⋆ 𝓤 H A (put 𝓤 H A n (‵ (WordRoom w l)) lent))) (fill 𝓤 H A n (‵ (WordRoom w l)) lent) $ keep t (3 ∷ 2 ∷ 0 ∷ []) $
       scattered (text ∷ ‵ (flft κ p) ∷ []) (put 𝓤 H A n (‵ (WordRoom w l)) lent) $
       subst (λ (Δ : List (Item 𝓤)). Seq K W (text ∷ ‵ (flft κ p) ∷ Δ) (lands C Λ E to u rest q)) (sym (put-twice 𝓤 H A n (‵ (WordRoom w l)) (loan κ′) Γ))
-      (subst (λ (us : List Val). Seq K W (text ∷ ‵ (flft κ p) ∷ put 𝓤 H A n (‵ (WordRoom w l)) Γ) (lands C Λ E to (only us) rest q)) (sym (tells r (u ∷ []) is)) (k r e (subst (Is R r) (tells r (u ∷ []) is) is)))))))))
+      (subst (λ (us : List Val). Seq K W (text ∷ ‵ (flft κ p) ∷ put 𝓤 H A n (‵ (WordRoom w l)) Γ) (lands C Λ E to (only us) rest q)) (sym (R .lowers .val-is r (u ∷ []) is)) (k r e (made R r 𝓤 H A W (LL.owed (R .type) (R .laws) r (u ∷ []) is))))))))))
