@@ -7,6 +7,14 @@ use Rattle.replica.specs.declared.outcome.Outcome.{Outcome}
 use Rattle.replica.specs.Outcome.{refused}
 use Rattle.replica.specs.Promises.{Kept}
 
+-- a call gives the outcome that it promises, and leaves the lent bytes that it promises
+pub record Gives (o promised : Outcome) (after bytes : List ℕ) : Type 0 where
+  pub outcome : o ≡ promised
+  pub lent : after ≡ bytes
+
+pub gives : {o promised : Outcome} {after bytes : List ℕ} → Gives o promised after bytes → (o ≡ promised) × (after ≡ bytes)
+gives g = (g .outcome, g .lent)
+
 -- the outcome, and the lent bytes, at an answer
 abbrev pub outcomeIf : Outcome → Replica → ℕ → Outcome
 outcomeIf o self answer = elim answer as (λ _. Outcome) [ zero ↦ o | suc n ↦ refused (suc n) self ]

@@ -8,7 +8,7 @@ use native.Mathlib.Decide.{decLt}
 use lib.ListN.{length, take, drop, getD, replicate, length-drop, List·getD-eq-default}
 use lib.Seq.{getD-take, getD-drop, length-take-le, take-at}
 use lib.Dec.{eqb, leb, ltb}
-use borrow.Author.Tests.{eqb-true, eqb-false, lt-ltb, le-leb, ne-eqb, eq-eqb, not-true}
+use borrow.Author.Tests.{eqb-true, eqb-false, lt-ltb, le-leb, ne-eqb, eq-eqb, not-true, not-false}
 use Rattle.texts.specs.Bytes.{bytes, allOf}
 use Rattle.texts.specs.Answers.{Meaning, answerOf}
 use Rattle.texts.specs.Code.{code, sameCode}
@@ -17,6 +17,7 @@ use Rattle.texts.specs.Register.{place, shopsOf, position, listed, registerAnsw
 use Rattle.texts.specs.Slip.{depLine, slipLayout, depsOf}
 use Rattle.texts.specs.declared.entry.Entry.{Entry}
 use Rattle.texts.specs.declared.register.Register.{Register}
+use Rattle.texts.proofs.Values.{fails, clash}
 use Rattle.texts.proofs.Firsts.{zero-first, no-rows}
 use Rattle.texts.proofs.LawsTexts.{same-code}
 use Rattle.texts.proofs.Steps.{both, and, nor, all-none, all-both, all-and, all-at, at-all, all-drop}
@@ -36,7 +37,7 @@ use Rattle.replica.proofs.Parts.{Lined, Parts, parts, whole}
 use Rattle.replica.proofs.Applied.{passed-of, payee-below, payee-other}
 use Rattle.replica.proofs.Back.{place-self}
 use Rattle.replica.proofs.IssuedSlip.{from-up, from-all, from-fewer, up-rising}
-use Rattle.replica.proofs.Kept.{NeedsKept, needs-kept, kept-needs, SlipKept, slip-kept, slip-rest, waiting-none, place-used, place-unused, LineKept, line-kept, kept-line, NumbersKept, numbers-kept, numbers-rest, own-kept, own-rest, shop-used, shop-unused}
+use Rattle.replica.proofs.Kept.{Held, held-none, held-more, held-done, NeedsKept, needs-kept, kept-needs, SlipKept, slip-kept, slip-rest, waiting-none, place-used, place-unused, LineKept, line-kept, kept-line, NumbersKept, numbers-kept, numbers-rest, own-kept, own-rest, shop-used, shop-unused}
 
 -- ---- the places of an array from n on
 
@@ -357,6 +358,56 @@ tested-lawful self shops lines T =
         let k = both (numbersKept (lineAt self p .count) (shopAt self p)) _ (sym (shop-used (shopCount self) p (shopAt self p) (lineAt self p) h) ∙ T .kept p (omega (arith, R .fits .most))) in
         kept-lined self R p h (numbers-kept _ _ (k .0)) (line-kept _ _ _ _ (k .1))
 
--- a legal register's own shop has a place
-pub own-below : (r : Register) → registerAnswer r ≡ 0 → position r (r .own) < 16
-own-below r e = let R = register-legal r e in omega (arith, below r (r .own) R (R .own), R .fits .most)
+-- ---- the tests, in the order in which they are made
+
+module _ (self : Replica) where
+  -- the register is not legal
+  pub register-broken : (n : ℕ) → n ≡ registerAnswer (self .register) → (n ≡ 0 → ⊥) → false ≡ lawful self
+  register-broken n e h = fails _ (λ l. h (e ∙ lawful-tested self l .register))
+
+  -- the own shop is not as it must be
+  pub own-broken : (p : ℕ) → p ≡ own self → (t : Bool) → t ≡ ownKept (self .issued) (shopAt self p) → not t ≡ true → false ≡ lawful self
+  own-broken p at t e h = fails _ (λ l. clash _ _ (e ∙ ap (λ (q : ℕ). ownKept (self .issued) (shopAt self q)) at) (not-true t h) (lawful-tested self l .ownShop))
+
+  -- the balances do not add up
+  pub sums-broken : (t : Bool) → t ≡ balanced (self .register) (self .shops) → not t ≡ true → false ≡ lawful self
+  sums-broken t e h = fails _ (λ l. clash _ _ e (not-true t h) (lawful-tested self l .sums))
+
+  -- a shop or its line is not as it must be
+  pub shop-broken : (p : ℕ) → p < 16 → (t : Bool) → t ≡ shopKept (shopCount self) p (shopAt self p) (lineAt self p) → not t ≡ true → false ≡ lawful self
+  shop-broken p h t e y = fails _ (λ l. clash _ _ e (not-true t y) (lawful-tested self l .kept p h))
+
+  module _ (n : ℕ) (e : n ≡ registerAnswer (self .register)) (z : n ≡ 0) where
+    -- a legal register has at most sixteen shops
+    pub few-shops : shopCount self ≤ 16
+    few-shops = register-legal (self .register) (sym e ∙ z) .fits .most
+
+    -- its own shop has a place
+    pub own-sixteen : (p : ℕ) → p ≡ own self → p < 16
+    own-sixteen p at = let R = register-legal (self .register) (sym e ∙ z) in omega (arith, few-shops, below (self .register) (self .register .own) R (R .own))
+
+-- the register, the own shop and the balances are as they must be, and so are the shops before p
+pub record TestedTo (self : Replica) (p : ℕ) : Type 0 where
+  pub register : registerAnswer (self .register) ≡ 0
+  pub ownShop : ownKept (self .issued) (shopAt self (own self)) ≡ true
+  pub sums : balanced (self .register) (self .shops) ≡ true
+  pub shops : Held (λ q. shopKept (shopCount self) q (shopAt self q) (lineAt self q)) 16 p
+
+-- no shop is asked yet
+pub tested-none : (self : Replica) (n : ℕ) → n ≡ registerAnswer (self .register) → n ≡ 0 → (p : ℕ) → p ≡ own self → (t : Bool) → t ≡ ownKept (self .issued) (shopAt self p) → not t ≡ false
+    → (u : Bool) → u ≡ balanced (self .register) (self .shops) → not u ≡ false → TestedTo self 0
+tested-none self n e z p at t k y u b w = record {
+  register = sym e ∙ z;
+  ownShop = sym (k ∙ ap (λ (q : ℕ). ownKept (self .issued) (shopAt self q)) at) ∙ not-false t y;
+  sums = sym b ∙ not-false u w;
+  shops = held-none _ 16;
+}
+
+module _ (self : Replica) (p : ℕ) (T : TestedTo self p) where
+  -- the shop at p is as it must be: one more
+  pub tested-more : p < 16 → (t : Bool) → t ≡ shopKept (shopCount self) p (shopAt self p) (lineAt self p) → not t ≡ false → TestedTo self (p + 1)
+  tested-more h t e y = record { register = T .register; ownShop = T .ownShop; sums = T .sums; shops = held-more (T .shops) h (sym e ∙ not-false t y) }
+
+  -- none is left
+  pub tested-done : 16 ≤ p → length (self .shops) ≡ 16 → length (self .lines) ≡ 16 → true ≡ lawful self
+  tested-done h shops lines = sym (tested-lawful self shops lines record { register = T .register; ownShop = T .ownShop; sums = T .sums; kept = every-at 16 _ (held-done (T .shops) h) })

@@ -14,14 +14,14 @@ use Rattle.texts.proofs.Legal.{register-legal}
 use Rattle.replica.specs.declared.record.Shop.{Shop}
 use Rattle.replica.specs.declared.record.Line.{Line}
 use Rattle.replica.specs.declared.record.Replica.{Replica}
-use Rattle.replica.specs.declared.outcome.Outcome.{Outcome}
 use Rattle.replica.specs.Record.{shopCount, own, lineAt}
 use Rattle.replica.specs.State.{lawful}
 use Rattle.replica.specs.Settle.{firstWaiting, ready, apply, withoutFirst, NoneReady, Settles, waits, settled, applying}
 use Rattle.replica.specs.Outcome.{did}
 use Rattle.replica.specs.Inside.{needsApplied, slipReady, Movable, movedFunds}
 use Rattle.replica.proofs.Sums.{either}
-use Rattle.replica.proofs.Quiet.{ready-some, apply-count, fewer}
+use Rattle.replica.proofs.Answered.{Gives}
+use Rattle.replica.proofs.Quiet.{apply-count, fewer}
 use Rattle.replica.proofs.Settling.{settles-so, settles-only-so}
 use Rattle.replica.proofs.Parts.{parts}
 use Rattle.replica.proofs.Most.{sum-most, balance-most}
@@ -44,9 +44,18 @@ module _ (self : Replica) (p : ℕ) where
       ready-is ∙ ap (λ b. b && slipReady (self .shops) (shopCount self) p (firstWaiting self p)) (lt-ltb 0 (lineAt self p .count) h)
       ∙ ap (λ m. slipReady (self .shops) m p (firstWaiting self p)) (sym e) ∙ sym s ∙ v
 
--- one more shop has no ready slip
-pub none-more : (self : Replica) (p : ℕ) → NoneReady self p → ready self p ≡ false → NoneReady self (p + 1)
-none-more self p N e q h = either q p (λ j. ap (ready self) j ∙ e) (λ j. N q (omega arith))
+-- Of n shops those before p have no ready slip.
+pub record Scanned (self : Replica) (n p : ℕ) : Type 0 where
+  pub within : p ≤ n
+  pub none : NoneReady self p
+
+-- no shop is looked at yet
+pub scanned-none : (self : Replica) (n : ℕ) → Scanned self n 0
+scanned-none self n = record { within = omega arith; none = λ q h. absurd (omega arith) }
+
+-- one more has none
+pub scanned-more : (self : Replica) (n p : ℕ) → Scanned self n p → p < n → ready self p ≡ false → Scanned self n (p + 1)
+scanned-more self n p S h e = record { within = omega arith; none = λ q l. either q p (λ j. ap (ready self) j ∙ e) (λ j. S .none q (omega arith)) }
 
 -- ---- settling, a slip at a time
 
@@ -122,19 +131,23 @@ module _ {lent : List ℕ} {start : Replica} {n at : ℕ} {list : List ℕ} {sel
       still : firstWaiting self p .payee < shopCount self → firstWaiting self p .payee < shopCount (apply self p)
       still b = subst (λ (k : ℕ). firstWaiting self p .payee < k) (sym (apply-count self p)) b
 
-  -- a slip waits there, and no more than eight do
-  pub going-line : (p : ℕ) → p < n → ready self p ≡ true → (0 < lineAt self p .count) × (lineAt self p .count ≤ 8)
-  going-line p h e = (ready-some self p e, parts self (G .law) .lined p (omega (arith, G .count)) .eight)
+  -- no more than eight wait there
+  pub going-eight : (p : ℕ) → p < n → lineAt self p .count ≤ 8
+  going-eight p h = parts self (G .law) .lined p (omega (arith, G .count)) .eight
 
   -- the list has room for one more
   pub going-fits : (p : ℕ) → p < n → ready self p ≡ true → done < length list
   going-fits p h e = omega (arith, G .left, G .size, G .room, fewer self p (omega (arith, G .count)) e)
 
+  -- one waits less then
+  pub going-less : (next : Replica) (p : ℕ) → next ≡ apply self p → p < n → ready self p ≡ true → waits next < waits self
+  going-less next p i h e = omega (arith, ap waits i, fewer self p (omega (arith, G .count)) e)
+
   -- one more
-  pub going-more : (next : Replica) (p : ℕ) → next ≡ apply self p → p < n → NoneReady self p → ready self p ≡ true → Going lent start n at (set list done p) next (done + 1)
-  going-more next p i h N e =
+  pub going-more : (next : Replica) (p : ℕ) → next ≡ apply self p → p < n → Scanned self n p → ready self p ≡ true → Going lent start n at (set list done p) next (done + 1)
+  going-more next p i h S e =
       let l : p < shopCount self = omega (arith, G .count) in
-      let T = turn self p l N e in
+      let T = turn self p l (S .none) e in
       let w = fewer self p l e in
       subst (λ (x : Replica). Going lent start n at (set list done p) x (done + 1)) (sym i) record {
         sofar = G .sofar ++ (p ∷ []);
@@ -162,12 +175,12 @@ module _ {lent : List ℕ} {start : Replica} {n at : ℕ} {list : List ℕ} {sel
           ∙ ap (λ i. (s ++ (p ∷ [])) ++ drop i lent) k
 
   -- no shop is ready any more
-  pub going-done : (i : ℕ) → n ≤ i → NoneReady self i
-      → (_≡_ {A = Outcome} (record { answer = 0; count = done; balance = 0; replica = self }) (did (length (applying start)) (settled start))) × (list ≡ over (applying start) lent)
-  going-done i h N =
-      let S = stopped self (λ q l. N q (omega (arith, G .count))) in
+  pub going-done : (p : ℕ) → n ≤ p → Scanned self n p
+      → Gives (record { answer = 0; count = done; balance = 0; replica = self }) (did (length (applying start)) (settled start)) list (over (applying start) lent)
+  going-done p h Z =
+      let S = stopped self (λ q l. Z .none q (omega (arith, G .count))) in
       let o : G .sofar ≡ applying start = sym (append-nil (G .sofar)) ∙ ap (λ x. G .sofar ++ x) (S .0) ∙ G .order in
-      (ap₂ (λ (k : ℕ) (x : Replica). did k x) (sym (G .made) ∙ ap length o) (S .1 ∙ G .state), G .bytes ∙ ap (λ x. over x lent) o)
+      record { outcome = ap₂ (λ (k : ℕ) (x : Replica). did k x) (sym (G .made) ∙ ap length o) (S .1 ∙ G .state); lent = G .bytes ∙ ap (λ x. over x lent) o }
 
 -- ---- apply, as the code does it
 

@@ -38,6 +38,7 @@ use Rattle.replica.specs.Balance.{balanceRows, asked}
 use Rattle.replica.specs.Inside.{marksOf, askRows}
 use Rattle.replica.proofs.OneToOne.{below, passed}
 use Rattle.replica.proofs.Parts.{parts}
+use Rattle.replica.proofs.Answered.{Gives}
 use Rattle.replica.proofs.IssuedSlip.{deps, fifteen, issued-passes}
 
 -- ---- what is asked when issuing: the tests that the code makes, one after the other
@@ -291,12 +292,12 @@ module _ (self : Replica) (law : lawful self ≡ true) where
   own-place p e = omega (arith, shop-place (self .register .own) (register-legal (self .register) (parts self law .register) .own))
 
   -- the own shop's next number can be counted
-  pub own-applied : ownShop self .applied ≤ 999999
-  own-applied =
+  pub own-applied : (s : Shop) → s ≡ ownShop self → s .applied ≤ 999999
+  own-applied s e =
       let P = parts self law in
       let R = register-legal (self .register) (P .register) in
       let L = P .lined (own self) (below (self .register) (self .register .own) R (R .own)) in
-      omega (arith, L .taken, L .most)
+      omega (arith, ap (λ (x : Shop). x .applied) e, L .taken, L .most)
 
   -- fifteen places hold the marks
   pub few-marks : length (depsFrom (self .register .shops) (marksOf (self .shops))) ≤ 15
@@ -311,20 +312,20 @@ is-lawful self l e h = sym e ∙ not-false l h
 module _ (self : Replica) (payee : List ℕ) (amount : ℕ) (buffer : List ℕ) where
   -- a refusal: the state and the bytes are as they were
   issue-refused : (n : ℕ) → issueAnswer self payee amount buffer ≡ n → (n ≡ 0 → ⊥) → (o : Outcome) → o ≡ refused n self
-      → (o ≡ issued self payee amount buffer) × (buffer ≡ issuedBuffer self payee amount buffer)
+      → Gives o (issued self payee amount buffer) buffer (issuedBuffer self payee amount buffer)
   unfolding issued issuedBuffer
   issue-refused zero e h o i = absurd (h refl)
-  issue-refused (suc n) e h o i = (i ∙ sym (rw (e, issued)), sym (rw (e, issuedBuffer)))
+  issue-refused (suc n) e h o i = record { outcome = i ∙ sym (rw (e, issued)); lent = sym (rw (e, issuedBuffer)) }
 
   -- the state breaks the rule: 13
   pub issue-state : (l : Bool) → l ≡ lawful self → not l ≡ true → (o : Outcome) → o ≡ refused 13 self
-      → (o ≡ issued self payee amount buffer) × (buffer ≡ issuedBuffer self payee amount buffer)
+      → Gives o (issued self payee amount buffer) buffer (issuedBuffer self payee amount buffer)
   unfolding issueRows
   issue-state l e h o i = issue-refused 13 (applies Meaning.state _ _ (ap not (sym e) ∙ h)) (λ z. omega arith) o i
 
   module _ (law : lawful self ≡ true) where
     -- the buffer is too small: 11
-    pub issue-room : length buffer < 366 → (o : Outcome) → o ≡ refused 11 self → (o ≡ issued self payee amount buffer) × (buffer ≡ issuedBuffer self payee amount buffer)
+    pub issue-room : length buffer < 366 → (o : Outcome) → o ≡ refused 11 self → Gives o (issued self payee amount buffer) buffer (issuedBuffer self payee amount buffer)
     unfolding issueRows
     issue-room h o i =
         issue-refused 11 (passes-by Meaning.state _ _ (ap not law) ∙ applies Meaning.room _ _ (lt-ltb (length buffer) 366 h)) (λ z. omega arith) o i
@@ -341,7 +342,7 @@ module _ (self : Replica) (payee : List ℕ) (amount : ℕ) (buffer : List ℕ) 
           ∙ ap₂ (λ (x : ℕ) (y : Code). answerOf (askRows (self .register) (ownShop self) (lineAt self (own self) .count) x y amount)) (ours .2) is-code)
 
       -- one of them applies
-      pub issue-answered : (n ≡ 0 → ⊥) → (o : Outcome) → o ≡ refused n self → (o ≡ issued self payee amount buffer) × (buffer ≡ issuedBuffer self payee amount buffer)
+      pub issue-answered : (n ≡ 0 → ⊥) → (o : Outcome) → o ≡ refused n self → Gives o (issued self payee amount buffer) buffer (issuedBuffer self payee amount buffer)
       issue-answered h o i = issue-refused n issue-asked h o i
 
       module _ (ok : n ≡ 0) where
@@ -374,8 +375,8 @@ module _ (self : Replica) (payee : List ℕ) (amount : ℕ) (buffer : List ℕ) 
 
           -- issued: the slip is written, its number is kept, the marks are 0
           pub issue-done : (w : Written) (after : List ℕ) (shops : List Shop) → w ≡ slipWritten s buffer → after ≡ slipBuffer s buffer → shops ≡ map unmarked (self .shops)
-              → (did (w .count) (record { register = self .register; issued = mine .shop .applied + 1; shops = shops; lines = self .lines }) ≡ issued self payee amount buffer)
-              × (after ≡ issuedBuffer self payee amount buffer)
+              → Gives (did (w .count) (record { register = self .register; issued = mine .shop .applied + 1; shops = shops; lines = self .lines })) (issued self payee amount buffer)
+              after (issuedBuffer self payee amount buffer)
           unfolding issued issuedBuffer issuing
           issue-done w after shops i j k =
               let text : List ℕ = issuedText self payee amount in
@@ -384,7 +385,7 @@ module _ (self : Replica) (payee : List ℕ) (amount : ℕ) (buffer : List ℕ) 
               let bytes : after ≡ over text buffer = j ∙ ap (λ x. slipBuffer x buffer) is-slip ∙ slip-put (issuedSlip self payee amount) buffer slip-written .1 in
               let then : record { register = self .register; issued = mine .shop .applied + 1; shops = shops; lines = self .lines } ≡ issuing self =
               ap₂ (λ (x : Shop) (l : List Shop). record { register = self .register; issued = x .applied + 1; shops = l; lines = self .lines }) (ours .0) k in
-              (ap₂ (λ n r. did n r) count then ∙ sym (rw (answer-zero, issued)), bytes ∙ sym (rw (answer-zero, issuedBuffer)))
+              record { outcome = ap₂ (λ n r. did n r) count then ∙ sym (rw (answer-zero, issued)); lent = bytes ∙ sym (rw (answer-zero, issuedBuffer)) }
 
 -- ---- what asking a balance answers
 

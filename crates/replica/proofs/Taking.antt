@@ -3,13 +3,14 @@ use mathlib.Core.Path.{_≡_, sym, ap, ap₂, _∙_, subst}
 use mathlib.Core.Bool.{Bool, true, false, not}
 use mathlib.Core.Option.{none}
 use mathlib.Core.List.{List, [], _∷_}
-use Prim.Native.Nat.{ℕ, _+_, _≤_, _<_}
+use Prim.Native.Nat.{ℕ, _+_, _^_, _≤_, _<_}
 use native.Mathlib.Omega.{arith}
 use lib.Dec.{leb}
 use lib.ListN.{length, set}
 use borrow.Author.Tests.{lt-ltb, le-ltb, le-leb, lt-leb, eq-eqb, ne-eqb, not-false}
 use Rattle.texts.specs.Bytes.{found}
 use Rattle.texts.specs.Answers.{form, range, shop, oneself, deps, number, full, room, state, answerOf}
+use Rattle.texts.specs.Register.{registerAnswer}
 use Rattle.texts.specs.Slip.{slipLayout, slipIn, slipRead}
 use Rattle.texts.specs.Written.{over}
 use Rattle.texts.specs.declared.register.Register.{Register}
@@ -18,7 +19,7 @@ use Rattle.texts.specs.declared.slip.SlipRead.{SlipRead}
 use Rattle.texts.proofs.Steps.{both}
 use Rattle.texts.proofs.Firsts.{first-zero, zero-first, no-rows, applies, passes-by, given-before}
 use Rattle.texts.proofs.LawsTexts.{slip-only}
-use Rattle.texts.proofs.Legal.{register-legal}
+use Rattle.texts.proofs.Legal.{register-legal, slip-legal}
 use Rattle.texts.proofs.Payees.{slip-carried, slip-form, slip-missing}
 use Rattle.replica.specs.declared.checks.Places.{Places}
 use Rattle.replica.specs.declared.record.Shop.{Shop}
@@ -38,7 +39,15 @@ use Rattle.replica.proofs.Parts.{parts, whole}
 use Rattle.replica.proofs.OneToOne.{below}
 use Rattle.replica.proofs.Applied.{passed-of}
 use Rattle.replica.proofs.Taken.{entered-parts}
-use Rattle.replica.proofs.Answered.{outcomeIf, bytesIf, refused-if, bytes-if}
+use Rattle.replica.proofs.Answered.{Gives, outcomeIf, bytesIf, refused-if, bytes-if}
+
+-- a lawful state's register is legal
+pub register-of : (self : Replica) → lawful self ≡ true → registerAnswer (self .register) ≡ 0
+register-of self law = parts self law .register
+
+-- a legal slip has at most fifteen dependencies
+pub few-deps : (s : Slip) → slipLayout .legal s ≡ true → s .count ≤ 15
+few-deps s legal = slip-legal s legal .count
 
 -- the payer's place, as it was looked up
 pub payer-place : (self : Replica) (s : Slip) (q : Places) → q ≡ placesOf (self .register) s → q .payer ≡ payerOf self s
@@ -80,12 +89,12 @@ abbrev listAt : Replica → Slip → List ℕ → ℕ → List ℕ
 listAt self s list = bytesIf (over (applying (entered self s)) list) list
 
 module _ (self : Replica) (s : Slip) (list : List ℕ) where
-  late-refused : (n : ℕ) (o : Outcome) → answerOf (lateRows self s) ≡ n → (n ≡ 0 → ⊥) → o ≡ refused n self → (o ≡ tookSlip self s) × (list ≡ tookList self s list)
+  late-refused : (n : ℕ) (o : Outcome) → answerOf (lateRows self s) ≡ n → (n ≡ 0 → ⊥) → o ≡ refused n self → Gives o (tookSlip self s) list (tookList self s list)
   unfolding tookSlip tookList
-  late-refused n o e h r = (r ∙ refused-if _ self n h ∙ ap (outcomeAt self s) (sym e), bytes-if _ list n h ∙ ap (listAt self s list) (sym e))
+  late-refused n o e h r = record { outcome = r ∙ refused-if _ self n h ∙ ap (outcomeAt self s) (sym e); lent = bytes-if _ list n h ∙ ap (listAt self s list) (sym e) }
 
   -- the checks of the slip refuse it
-  pub check-refused : (n : ℕ) (o : Outcome) → n ≡ answerOf (checkRows (self .register) s) → (n ≡ 0 → ⊥) → o ≡ refused n self → (o ≡ tookSlip self s) × (list ≡ tookList self s list)
+  pub check-refused : (n : ℕ) (o : Outcome) → n ≡ answerOf (checkRows (self .register) s) → (n ≡ 0 → ⊥) → o ≡ refused n self → Gives o (tookSlip self s) list (tookList self s list)
   check-refused n o e h r = late-refused n o (given-before (checkRows (self .register) s) _ n (sym e) h) h r
 
   module _ (n : ℕ) (e : n ≡ answerOf (checkRows (self .register) s)) (z : n ≡ 0) where
@@ -95,7 +104,7 @@ module _ (self : Replica) (s : Slip) (list : List ℕ) where
         passes-by range _ _ (C .four) ∙ passes-by shop _ _ (C .two) ∙ passes-by oneself _ _ (C .three) ∙ passes-by deps _ _ (C .five)
 
     -- its number is not the next
-    pub number-refused : (p : ℕ) (o : Outcome) → p ≡ payerOf self s → (s .number ≡ shopAt self p .taken + 1 → ⊥) → o ≡ refused 6 self → (o ≡ tookSlip self s) × (list ≡ tookList self s list)
+    pub number-refused : (p : ℕ) (o : Outcome) → p ≡ payerOf self s → (s .number ≡ shopAt self p .taken + 1 → ⊥) → o ≡ refused 6 self → Gives o (tookSlip self s) list (tookList self s list)
     number-refused p o at h r =
         late-refused 6 o (late ∙ applies number _ _ (ap not (ne-eqb (s .number) (shopAt self (payerOf self s) .taken + 1) (λ i. h (i ∙ ap (λ q. shopAt self q .taken + 1) (sym at)))))) (λ i. omega arith) r
 
@@ -104,17 +113,20 @@ module _ (self : Replica) (s : Slip) (list : List ℕ) where
       not-six = ap not (eq-eqb (s .number) (shopAt self (payerOf self s) .taken + 1) (next ∙ ap (λ q. shopAt self q .taken + 1) at))
 
       -- eight wait
-      pub full-refused : (o : Outcome) → 8 ≤ lineAt self p .count → o ≡ refused 7 self → (o ≡ tookSlip self s) × (list ≡ tookList self s list)
+      pub full-refused : (o : Outcome) → 8 ≤ lineAt self p .count → o ≡ refused 7 self → Gives o (tookSlip self s) list (tookList self s list)
       full-refused o h r =
           late-refused 7 o (late ∙ passes-by number _ _ not-six ∙ applies full _ _ (ap (λ q. leb 8 (lineAt self q .count)) (sym at) ∙ le-leb 8 (lineAt self p .count) h)) (λ i. omega arith) r
 
       -- accepted
       pub late-done : (next : Replica) (o : Outcome) (after : List ℕ) → lineAt self p .count < 8 → next ≡ entered self s
-          → o ≡ did (length (applying next)) (settled next) → after ≡ over (applying next) list → (o ≡ tookSlip self s) × (after ≡ tookList self s list)
+          → o ≡ did (length (applying next)) (settled next) → after ≡ over (applying next) list → Gives o (tookSlip self s) after (tookList self s list)
       unfolding tookSlip tookList
       late-done next o after h i r b =
           let a : answerOf (lateRows self s) ≡ 0 = late ∙ passes-by number _ _ not-six ∙ passes-by full _ _ (ap (λ q. leb 8 (lineAt self q .count)) (sym at) ∙ lt-leb 8 (lineAt self p .count) h) ∙ no-rows in
-          (r ∙ ap (λ (x : Replica). did (length (applying x)) (settled x)) i ∙ ap (outcomeAt self s) (sym a), b ∙ ap (λ (x : Replica). over (applying x) list) i ∙ ap (listAt self s list) (sym a))
+          record {
+            outcome = r ∙ ap (λ (x : Replica). did (length (applying x)) (settled x)) i ∙ ap (outcomeAt self s) (sym a);
+            lent = b ∙ ap (λ (x : Replica). over (applying x) list) i ∙ ap (listAt self s list) (sym a);
+          }
 
 -- ---- the slip in its payer's line
 
@@ -129,8 +141,8 @@ module _ (self : Replica) (s : Slip) (law : lawful self ≡ true) (legal : slipL
     pub payer-sixteen : p < 16
     payer-sixteen = omega (arith, payer-below, register-legal (self .register) (parts self law .register) .fits .most)
 
-    pub taken-fits : shopAt self p .taken ≤ 999999
-    taken-fits = subst (λ (q : ℕ). shopAt self q .taken ≤ 999999) (sym at) (parts self law .lined (payerOf self s) payer-below .most)
+    pub taken-fits : shopAt self p .taken + 1 < 2 ^ 32
+    taken-fits = subst (λ (q : ℕ). shopAt self q .taken + 1 < 2 ^ 32) (sym at) (omega (arith, parts self law .lined (payerOf self s) payer-below .most))
 
     pub entered-lawful-so : (next : Replica) → next ≡ entered self s → s .number ≡ shopAt self p .taken + 1 → lineAt self p .count < 8 → lawful next ≡ true
     entered-lawful-so next i m h =
@@ -163,18 +175,18 @@ pub slip-is-legal : (text : List ℕ) (x : SlipRead) → x ≡ slipRead text →
 slip-is-legal text x read ok = slip-only text (x .slip) (slip-carried text x read ok) .0
 
 module _ (self : Replica) (text list : List ℕ) where
-  take-refused : (n : ℕ) (o : Outcome) → takeAnswer self text list ≡ n → (n ≡ 0 → ⊥) → o ≡ refused n self → (o ≡ taken self text list) × (list ≡ takenList self text list)
+  take-refused : (n : ℕ) (o : Outcome) → takeAnswer self text list ≡ n → (n ≡ 0 → ⊥) → o ≡ refused n self → Gives o (taken self text list) list (takenList self text list)
   unfolding taken takenList
   take-refused n o e h r =
       let s = slipFrom text in
-      (r ∙ refused-if _ self n h ∙ ap (outcomeAt self s) (sym e), bytes-if _ list n h ∙ ap (listAt self s list) (sym e))
+      record { outcome = r ∙ refused-if _ self n h ∙ ap (outcomeAt self s) (sym e); lent = bytes-if _ list n h ∙ ap (listAt self s list) (sym e) }
 
-  pub state-refused : (t : Bool) (o : Outcome) → t ≡ lawful self → not t ≡ true → o ≡ refused 13 self → (o ≡ taken self text list) × (list ≡ takenList self text list)
+  pub state-refused : (t : Bool) (o : Outcome) → t ≡ lawful self → not t ≡ true → o ≡ refused 13 self → Gives o (taken self text list) list (takenList self text list)
   unfolding takeRows
   state-refused t o e h r = take-refused 13 o (applies state _ _ (ap not (sym e) ∙ h)) (λ i. omega arith) r
 
   module _ (t : Bool) (e : t ≡ lawful self) (y : not t ≡ false) where
-    pub room-refused : (o : Outcome) → length list < 128 → o ≡ refused 11 self → (o ≡ taken self text list) × (list ≡ takenList self text list)
+    pub room-refused : (o : Outcome) → length list < 128 → o ≡ refused 11 self → Gives o (taken self text list) list (takenList self text list)
     unfolding takeRows
     room-refused o h r = take-refused 11 o (passes-by state _ _ (ap not (sym e) ∙ y) ∙ applies room _ _ (lt-ltb (length list) 128 h)) (λ i. omega arith) r
 
@@ -183,7 +195,7 @@ module _ (self : Replica) (text list : List ℕ) where
       unfolding takeRows
       opened-up = passes-by state _ _ (ap not (sym e) ∙ y) ∙ passes-by room _ _ (le-ltb (length list) 128 h)
 
-      pub form-refused : (o : Outcome) → (x .answer ≡ 0 → ⊥) → o ≡ refused (x .answer) self → (o ≡ taken self text list) × (list ≡ takenList self text list)
+      pub form-refused : (o : Outcome) → (x .answer ≡ 0 → ⊥) → o ≡ refused (x .answer) self → Gives o (taken self text list) list (takenList self text list)
       form-refused o bad r =
           let i = slip-missing text x read bad in
           let one : x .answer ≡ 1 = form-is i in
@@ -193,12 +205,10 @@ module _ (self : Replica) (text list : List ℕ) where
           form-is i = ap (λ (q : SlipRead). q .answer) read ∙ slip-form text i
 
       -- the slip was read: what is left decides
-      pub take-late : x .answer ≡ 0 → (o : Outcome) (after : List ℕ) → o ≡ tookSlip self (x .slip) → after ≡ tookList self (x .slip) list → (o ≡ taken self text list) × (after ≡ takenList self text list)
+      pub take-late : x .answer ≡ 0 → (o : Outcome) (after : List ℕ) → o ≡ tookSlip self (x .slip) → after ≡ tookList self (x .slip) list → Gives o (taken self text list) after (takenList self text list)
       unfolding taken takenList tookSlip tookList
       take-late ok o after r b =
           let i = slip-carried text x read ok in
           let s : slipFrom text ≡ x .slip = ap (λ (q : SlipRead). q .slip) (sym read) in
-          let a : takeAnswer self text list ≡ answerOf (lateRows self (x .slip)) = opened-up ∙ passes-by form _ _ (ap (λ q. not (found q)) i) ∙ ap (λ q. answerOf (lateRows self q)) s in (
-            r ∙ ap₂ (λ (q : Slip) (k : ℕ). outcomeAt self q k) (sym s) (sym a),
-            b ∙ ap₂ (λ (q : Slip) (k : ℕ). listAt self q list k) (sym s) (sym a),
-          )
+          let a : takeAnswer self text list ≡ answerOf (lateRows self (x .slip)) = opened-up ∙ passes-by form _ _ (ap (λ q. not (found q)) i) ∙ ap (λ q. answerOf (lateRows self q)) s in
+          record { outcome = r ∙ ap₂ (λ (q : Slip) (k : ℕ). outcomeAt self q k) (sym s) (sym a); lent = b ∙ ap₂ (λ (q : Slip) (k : ℕ). listAt self q list k) (sym s) (sym a) }

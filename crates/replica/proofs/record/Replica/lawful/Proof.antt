@@ -1,23 +1,14 @@
 -- Each part of the record is asked in turn, by position: the tests pass exactly when the state rule holds.
-use mathlib.Core.Path.{_≡_, sym, ap, _∙_}
-use Prim.Native.Nat.{ℕ, _-_}
+use Prim.Native.Nat.{_-_, _<_}
 use native.Mathlib.Omega.{arith}
-use lib.ListN.{length}
-use borrow.Author.Tests.{not-true, not-false}
 use borrow.Author.Needs.{needs}
-use Rattle.texts.specs.Register.{registerAnswer, position}
-use Rattle.texts.proofs.Values.{fails, clash, length-mapped}
-use Rattle.texts.proofs.Legal.{register-legal}
-use Rattle.replica.specs.Record.{shopCount, shopAt, lineAt}
-use Rattle.replica.specs.Inside.{shopKept, ownKept}
-use Rattle.replica.proofs.Kept.{Held, held-none, held-more, held-done}
-use Rattle.replica.proofs.Sums.{every-at}
-use Rattle.replica.proofs.ByPosition.{lawful-tested, tested-lawful, own-below}
+use Rattle.texts.proofs.Values.{length-mapped}
+use Rattle.replica.proofs.ByPosition.{register-broken, own-broken, sums-broken, shop-broken, own-sixteen, few-shops, TestedTo, tested-none, tested-more, tested-done}
 use Rattle.replica.proofs.record.Replica.lawful.Statement.{statement}
 use Rattle.replica.proofs.record.Replica.lawful.Tie as tie
 
 abbrev Inv-loop : tie.InvT-loop
-Inv-loop self shops n own p₀ p = Held (λ p. shopKept (shopCount self) p (shopAt self p) (lineAt self p)) 16 p
+Inv-loop self shops n own p₀ p = TestedTo self p
 
 abbrev μ-loop : tie.MeasureT-loop
 μ-loop self shops n own p₀ p = 16 - p
@@ -26,40 +17,31 @@ answer-requires : tie.Need-answer-requires Inv-loop μ-loop
 answer-requires c κs = search needs
 
 returns : tie.Need-returns Inv-loop μ-loop
-returns c = fails _ (λ e. c .if1 .taken (c .before .answer .ensures ∙ lawful-tested _ e .register))
+returns c = search (register-broken, needs)
 
 position-requires : tie.Need-position-requires Inv-loop μ-loop
 position-requires c κs = search needs
 
 mul-own-shop : tie.Need-mul-own-shop Inv-loop μ-loop
-mul-own-shop c =
-    let legal : registerAnswer (c .before .before .before .before .before .args .t1 .register) ≡ 0 = sym (c .before .before .answer .ensures) ∙ c .before .if1 .left in
-    omega (arith, own-below _ legal, c .position .ensures)
+mul-own-shop c = let room : c .position .result < 16 = search (own-sixteen, needs) in omega arith
 
 array-copy-out-own-shop : tie.Need-array-copy-out-own-shop Inv-loop μ-loop
-array-copy-out-own-shop c =
-    let legal : registerAnswer (c .before .before .before .before .before .args .t1 .register) ≡ 0 = sym (c .before .before .answer .ensures) ∙ c .before .if1 .left in
-    omega (arith, own-below _ legal, c .position .ensures)
+array-copy-out-own-shop c = search (own-sixteen, needs)
 
 own-kept-requires : tie.Need-own-kept-requires Inv-loop μ-loop
 own-kept-requires c κs = search needs
 
 returns-2 : tie.Need-returns-2 Inv-loop μ-loop
-returns-2 c =
-    let self = c .before .before .before .before .before .before .before .before .args .t1 in
-    let at : c .before .before .before .position .result ≡ position (self .register) (self .register .own) = c .before .before .before .position .ensures in
-    fails _ (λ e. clash _ _ (c .before .own-kept .ensures ∙ ap (λ (i : ℕ). ownKept (self .issued) (shopAt self i)) at) (not-true _ (c .if2 .taken)) (lawful-tested _ e .ownShop))
+returns-2 c = search (own-broken, needs)
 
 is-balanced-requires : tie.Need-is-balanced-requires Inv-loop μ-loop
-is-balanced-requires c κs =
-    let legal : registerAnswer (c .before .before .before .before .before .before .before .before .args .t1 .register) ≡ 0 = sym (c .before .before .before .before .before .answer .ensures) ∙ c .before .before .before .before .if1 .left in
-    register-legal _ legal .fits .most
+is-balanced-requires c κs = search (few-shops, needs)
 
 returns-3 : tie.Need-returns-3 Inv-loop μ-loop
-returns-3 c = fails _ (λ e. clash _ _ (c .before .is-balanced .ensures) (not-true _ (c .if3 .taken)) (lawful-tested _ e .sums))
+returns-3 c = search (sums-broken, needs)
 
 loop-holds : tie.Need-loop-holds Inv-loop μ-loop
-loop-holds c = held-none _ 16
+loop-holds c = let start : tie.Start Inv-loop μ-loop = search in search (tested-none (start .args .t1), needs)
 
 mul-shop : tie.Need-mul-shop Inv-loop μ-loop
 mul-shop c = search needs
@@ -77,7 +59,7 @@ shop-kept-requires : tie.Need-shop-kept-requires Inv-loop μ-loop
 shop-kept-requires c κs = search needs
 
 returns-4 : tie.Need-returns-4 Inv-loop μ-loop
-returns-4 c = fails _ (λ e. clash _ _ (c .before .shop-kept .ensures) (not-true _ (c .if4 .taken)) (lawful-tested _ e .kept (c .before .before .before .before .before .loop .p) (search needs)))
+returns-4 c = search (shop-broken, needs)
 
 add-p : tie.Need-add-p Inv-loop μ-loop
 add-p c = search needs
@@ -86,20 +68,10 @@ loop-less : tie.Need-loop-less Inv-loop μ-loop
 loop-less c = search needs
 
 loop-again : tie.Need-loop-again Inv-loop μ-loop
-loop-again c = held-more (c .before .before .before .before .before .loop .inv) (search needs) (sym (c .before .shop-kept .ensures) ∙ not-false _ (c .if4 .left))
+loop-again c = let start : tie.Start Inv-loop μ-loop = search in search (tested-more (start .args .t1), needs)
 
 returns-5 : tie.Need-returns-5 Inv-loop μ-loop
-returns-5 c =
-    let self = c .before .before .before .before .before .before .before .before .before .before .before .before .args .t1 in
-    let at : c .before .before .before .before .before .before .before .position .result ≡ position (self .register) (self .register .own) = c .before .before .before .before .before .before .before .position .ensures in
-    let shops : length (self .shops) ≡ 16 = search (length-mapped, needs) in
-    let lines : length (self .lines) ≡ 16 = search (length-mapped, needs) in
-    sym (tested-lawful self shops lines record {
-      register = sym (c .before .before .before .before .before .before .before .before .before .answer .ensures) ∙ c .before .before .before .before .before .before .before .before .if1 .left;
-      ownShop = sym (c .before .before .before .before .before .own-kept .ensures ∙ ap (λ (i : ℕ). ownKept (self .issued) (shopAt self i)) at) ∙ not-false _ (c .before .before .before .before .if2 .left);
-      sums = sym (c .before .before .before .is-balanced .ensures) ∙ not-false _ (c .before .before .if3 .left);
-      kept = every-at 16 _ (held-done (c .before .loop .inv) (search needs));
-    })
+returns-5 c = search (tested-done, length-mapped, needs)
 
 pub lawful-spec : {M : Type 1} → statement M
 lawful-spec =

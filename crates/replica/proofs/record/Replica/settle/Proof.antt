@@ -1,18 +1,17 @@
 -- Before each scan some slips have been applied and the rest is still to be settled; a scan finds the first ready slip or that there is none.
-use Prim.Native.Nat.{_-_, _≤_}
-use mathlib.Core.Path.{_≡_, ap}
-use mathlib.Core.Bool.{true, false}
+use Prim.Native.Nat.{_-_}
 use mathlib.Core.Logic.{⊎-elim}
 use native.Mathlib.Omega.{arith}
 use borrow.Author.Needs.{needs}
-use Rattle.replica.specs.Settle.{ready, waits, NoneReady}
-use Rattle.replica.proofs.Quiet.{fewer}
-use Rattle.replica.proofs.Going.{not-waiting, first-decides, none-more, Going, going-none, going-movable, going-line, going-fits, going-more, going-done, applied-is}
+use Rattle.replica.specs.Settle.{waits}
+use Rattle.replica.proofs.Answered.{gives}
+use Rattle.replica.proofs.Going.{not-waiting, first-decides, Scanned, scanned-none, scanned-more}
+use Rattle.replica.proofs.Going.{Going, going-none, going-movable, going-eight, going-fits, going-less, going-more, going-done, applied-is}
 use Rattle.replica.proofs.record.Replica.settle.Statement.{statement}
 use Rattle.replica.proofs.record.Replica.settle.Tie as tie
 
 abbrev Inv-scan : tie.InvT-scan
-Inv-scan list self n own done at₀ at = (at ≤ n) × NoneReady self at
+Inv-scan list self n own done at₀ at = Scanned self n at
 
 abbrev μ-scan : tie.MeasureT-scan
 μ-scan list self n own done at₀ at = n - at
@@ -23,11 +22,15 @@ Inv-settle list₀ self₀ n own done₀ list self done = Going list₀ self₀ 
 abbrev μ-settle : tie.MeasureT-settle
 μ-settle list₀ self₀ n own done₀ list self done = waits self
 
--- the scan has found a slip: from there back to the scan
-found : (c : tie.Then2 Inv-scan μ-scan Inv-settle μ-settle) → ready (c .before .before .before .before .before .before .before .before .settle .self) (c .before .before .before .before .before .before .before .scan .at) ≡ true
-found c =
-    let scan = c .before .before .before .before .before .before .before in
-    first-decides (scan .before .settle .self) (scan .scan .at) _ _ true (scan .before .settle .inv .count) (c .before .before .before .before .before .if1 .taken) (c .before .slip-ready .ensures) (c .if2 .taken)
+-- Three moments: slips have been applied and the rest is to be settled; the scan looks at a shop; it has found a ready slip there.
+abbrev Settling : Type 0
+Settling = tie.At-settle Inv-scan μ-scan Inv-settle μ-settle
+
+abbrev Looking : Type 0
+Looking = tie.At-scan Inv-scan μ-scan Inv-settle μ-settle
+
+abbrev Found : Type 0
+Found = tie.Then2 Inv-scan μ-scan Inv-settle μ-settle
 
 position-requires : tie.Need-position-requires Inv-scan μ-scan Inv-settle μ-settle
 position-requires c κs = search needs
@@ -36,7 +39,7 @@ settle-holds : tie.Need-settle-holds Inv-scan μ-scan Inv-settle μ-settle
 settle-holds c = search (going-none, needs)
 
 scan-holds : tie.Need-scan-holds Inv-scan μ-scan Inv-settle μ-settle
-scan-holds c = (search needs, λ q h. absurd (omega arith))
+scan-holds c = search (scanned-none, needs)
 
 mul-if1 : tie.Need-mul-if1 Inv-scan μ-scan Inv-settle μ-settle
 mul-if1 c = search needs
@@ -63,10 +66,7 @@ scan-less : tie.Need-scan-less Inv-scan μ-scan Inv-settle μ-settle
 scan-less c = search needs
 
 scan-again : tie.Need-scan-again Inv-scan μ-scan Inv-settle μ-settle
-scan-again c =
-    let scan = c .before .before in
-    let self = scan .before .settle .self in
-    (search needs, none-more self (scan .scan .at) (scan .scan .inv .1) (⊎-elim (λ w. first-decides self (scan .scan .at) _ _ false (scan .before .settle .inv .count) (w .0 .taken) (w .4 .ensures) (w .5 .left)) (λ w. not-waiting self (scan .scan .at) (w .left)) (c .if1 .came)))
+scan-again c = ⊎-elim (λ w. search (scanned-more, first-decides, needs)) (λ w. search (scanned-more, not-waiting, needs)) (c .if1 .came)
 
 mul-line-2 : tie.Need-mul-line-2 Inv-scan μ-scan Inv-settle μ-settle
 mul-line-2 c = search needs
@@ -79,15 +79,13 @@ element-copy-out-slip-2 c = search needs
 
 moved-requires : tie.Need-moved-requires Inv-scan μ-scan Inv-settle μ-settle
 moved-requires c κs =
-    let here = c .before .before .before in
-    let scan = here .before .before .before .before .before .before .before in
-    going-movable (scan .before .settle .inv) (scan .scan .at) (search needs) (found here)
+    let found : Found = search in
+    let settling : Settling = search in
+    let looking : Looking = search in
+    going-movable (settling .settle .inv) (looking .scan .at) (search needs) (search (first-decides, needs))
 
 without-first-requires : tie.Need-without-first-requires Inv-scan μ-scan Inv-settle μ-settle
-without-first-requires c κs =
-    let here = c .before .before .before .before in
-    let scan = here .before .before .before .before .before .before .before in
-    going-line (scan .before .settle .inv) (scan .scan .at) (search needs) (found here)
+without-first-requires c κs = search (going-eight, needs)
 
 mul-shorter : tie.Need-mul-shorter Inv-scan μ-scan Inv-settle μ-settle
 mul-shorter c = search needs
@@ -100,34 +98,29 @@ cast-list c = omega arith
 
 slice-write-list : tie.Need-slice-write-list Inv-scan μ-scan Inv-settle μ-settle
 slice-write-list c =
-    let here = c .before .before .before .before .before in
-    let scan = here .before .before .before .before .before .before .before in
-    going-fits (scan .before .settle .inv) (scan .scan .at) (search needs) (found here)
+    let found : Found = search in
+    let settling : Settling = search in
+    let looking : Looking = search in
+    going-fits (settling .settle .inv) (looking .scan .at) (search needs) (search (first-decides, needs))
 
 add-done : tie.Need-add-done Inv-scan μ-scan Inv-settle μ-settle
 add-done c = search needs
 
 settle-less : tie.Need-settle-less Inv-scan μ-scan Inv-settle μ-settle
-settle-less c =
-    let here = c .before .before .before .before .before in
-    let scan = here .before .before .before .before .before .before .before in
-    let settle = scan .before .settle in
-    let one = fewer (settle .self) (scan .scan .at) (omega arith) (found here) in
-    let same = ap waits (applied-is (settle .self) _ (scan .scan .at) _ _ (settle .inv .ownAt) (c .before .moved .ensures) (c .without-first .ensures)) in
-    omega (arith, one, same)
+settle-less c = search (going-less, applied-is, first-decides, needs)
 
 settle-again : tie.Need-settle-again Inv-scan μ-scan Inv-settle μ-settle
 settle-again c =
-    let here = c .before .before .before .before .before in
-    let scan = here .before .before .before .before .before .before .before in
-    let settle = scan .before .settle in
-    going-more (settle .inv) _ (scan .scan .at) (applied-is (settle .self) _ (scan .scan .at) _ _ (settle .inv .ownAt) (c .before .moved .ensures) (c .without-first .ensures)) (search needs) (scan .scan .inv .1) (found here)
+    let found : Found = search in
+    let settling : Settling = search in
+    let looking : Looking = search in
+    going-more (settling .settle .inv) _ (looking .scan .at) (search (applied-is, needs)) (search needs) (looking .scan .inv) (search (first-decides, needs))
 
 same-length : tie.Need-same-length Inv-scan μ-scan Inv-settle μ-settle
 same-length c = search needs
 
 returns : tie.Need-returns Inv-scan μ-scan Inv-settle μ-settle
-returns c = going-done (c .before .before .settle .inv) (c .before .scan .at) (c .scan-test .taken) (c .before .scan .inv .1)
+returns c = gives (search (going-done, needs))
 
 pub settle-spec : {M : Type 1} → statement M
 settle-spec =
