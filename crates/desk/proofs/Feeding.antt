@@ -6,25 +6,22 @@ use Prim.Native.Nat.{ℕ, _+_, _*_, _≤_, _<_}
 use native.Mathlib.Omega.{arith}
 use native.Mathlib.Numerals.{add-one}
 use lib.Dec.{leb, eqb}
-use lib.ListN.{length, take, drop, getD, set, replicate, take-append-drop}
+use lib.ListN.{length, take, drop, getD, set, take-append-drop}
 use lib.Seq.{take-all, take-suc, take-take}
 use borrow.Author.Tests.{leb-false, lt-ltb, le-ltb}
 use Rattle.texts.specs.Inside.{Room, Wrote}
 use Rattle.texts.specs.Written.{over}
 use Rattle.texts.proofs.Steps.{neither}
 use Rattle.texts.proofs.Writing.{wrote-nothing, wrote-over, wrote-then}
-use Rattle.replica.specs.declared.record.Replica.{Replica}
 use Rattle.replica.specs.declared.outcome.Outcome.{Outcome}
-use Rattle.replica.specs.Record.{noReplica}
 use Rattle.replica.specs.State.{lawful}
 use Rattle.replica.specs.Open.{opened}
 use Rattle.replica.specs.Take.{taken}
-use Rattle.replica.proofs.Promises.{refused-gives-zeros, empty-register-refused}
 use Rattle.desk.specs.declared.desk.Desk.{Desk}
 use Rattle.desk.specs.Bounds.{mostSlips, mostKept, mostSaid, windowSize, pageSize}
 use Rattle.desk.specs.Chunks.{emptyLine}
 use Rattle.desk.specs.Printed.{registerLine, slipLines, shopsPrinted, lent}
-use Rattle.desk.specs.Desk.{newDesk, stopped, kept, opens, takes, ends, endSaid, keeps, step, stepSaid, fed, said, last, lastSaid, closing}
+use Rattle.desk.specs.Desk.{stopped, kept, opens, takes, ends, endSaid, keeps, step, stepSaid, fed, said, last, lastSaid, closing}
 use Rattle.desk.proofs.Steps.{fed-append, said-append, stopped-fed, stopped-said, shops-there, no-shops, last-none, last-ends, closing-is}
 use Rattle.desk.proofs.Lengths.{register-line-most, slip-lines-most, end-said-most, last-said-most, shops-most}
 
@@ -35,18 +32,6 @@ over-so refused full e = rw e
 
 pub within-short : (bytes : List ℕ) (len : ℕ) → length bytes < len → (length bytes ≤ length bytes) × (take (length bytes) bytes ≡ take len bytes)
 within-short bytes len h = (omega arith, take-all (length bytes) bytes (omega arith) ∙ sym (take-all len bytes (omega arith)))
-
--- ---- nothing has come in
-
--- the empty text is refused
-opened-nothing : opened [] .replica ≡ noReplica
-opened-nothing = refused-gives-zeros [] (λ e. omega (arith, empty-register-refused))
-
-pub new-is : (o : Outcome) → o ≡ opened []
-    → record { replica = o .replica; bytes = replicate mostKept 0; len = 0; begins = true; opened = false; refused = false; slips = 0 } ≡ newDesk
-new-is o e =
-    ap (λ (x : Replica). record { replica = x; bytes = replicate mostKept 0; len = 0; begins = true; opened = false; refused = false; slips = 0 })
-    (ap (λ (o : Outcome). o .replica) e ∙ opened-nothing)
 
 -- ---- a chunk ends
 

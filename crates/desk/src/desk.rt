@@ -66,8 +66,7 @@ impl Desk {
     pub fn new() -> Self
         ensures { λ r. ⌜ r ≡ newDesk ⌝ }
     {
-        let none = Replica::open(b"");
-        let replica = none.replica;
+        let replica = Replica::none();
         Desk {
             replica,
             bytes: [0u8; KEPT],

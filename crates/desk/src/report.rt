@@ -2,7 +2,7 @@
 use replica::Replica;
 use replica::Shop;
 use texts::Code;
-use texts::page::put_number;
+use texts::page::put_number_line;
 use texts::page::put_word;
 use texts::why;
 ghost use mathlib.Core.Path.{_≡_};
@@ -29,7 +29,7 @@ pub(crate) fn put_register(page: &mut [u8], at: usize, answer: u8) -> usize
     requires { ⌜ Room (now page) at (registerLine answer) ⌝ }
     ensures { λ r. ⌜ Wrote (now (page .entry)) at (registerLine answer) (now (page .exit)) r ⌝ }
 {
-    put_number(page, at, b"register=", answer as u32, 2)
+    put_number_line(page, at, b"register=", answer as u32, 2)
 }
 
 // An answer and its name.
@@ -40,7 +40,7 @@ fn put_answer(page: &mut [u8], at: usize, answer: u8) -> usize
     let name = why(answer);
     let bytes = name.bytes;
     let len = name.len;
-    let next = put_number(page, at, b"answer=", answer as u32, 2);
+    let next = put_number_line(page, at, b"answer=", answer as u32, 2);
     put_line(page, next, b"why=", &bytes[..len])
 }
 
@@ -49,9 +49,9 @@ pub(crate) fn put_slip(page: &mut [u8], at: usize, slip: u32, answer: u8, applie
     requires { ⌜ Room (now page) at (slipLines slip answer applied) ⌝ }
     ensures { λ r. ⌜ Wrote (now (page .entry)) at (slipLines slip answer applied) (now (page .exit)) r ⌝ }
 {
-    let numbered = put_number(page, at, b"slip=", slip, 6);
+    let numbered = put_number_line(page, at, b"slip=", slip, 6);
     let answered = put_answer(page, numbered, answer);
-    put_number(page, answered, b"applied=", applied, 3)
+    put_number_line(page, answered, b"applied=", applied, 3)
 }
 
 // A shop's balance, how many of its slips are done, how many wait.
@@ -59,9 +59,9 @@ fn put_numbers(page: &mut [u8], at: usize, balance: u32, applied: u32, waits: u3
     requires { ⌜ Room (now page) at (numbersLines balance applied waits) ⌝ }
     ensures { λ r. ⌜ Wrote (now (page .entry)) at (numbersLines balance applied waits) (now (page .exit)) r ⌝ }
 {
-    let next = put_number(page, at, b"balance=", balance, 8);
-    let done = put_number(page, next, b"done=", applied, 6);
-    put_number(page, done, b"waits=", waits, 1)
+    let next = put_number_line(page, at, b"balance=", balance, 8);
+    let done = put_number_line(page, next, b"done=", applied, 6);
+    put_number_line(page, done, b"waits=", waits, 1)
 }
 
 // A shop: its code and its numbers.

@@ -32,7 +32,7 @@ use Rattle.replica.specs.declared.outcome.Outcome.{Outcome}
 use Rattle.replica.specs.Record.{noShop, noReplica}
 use Rattle.replica.specs.Slips.{numberFor, waitingOf}
 use Rattle.replica.specs.Checks.{range?, shop?, self?, rising, deps?, checkRows}
-use Rattle.replica.specs.Outcome.{refused}
+use Rattle.replica.specs.Outcome.{refused, did}
 use Rattle.replica.specs.Open.{firstDay, fresh, opened}
 use Rattle.replica.specs.Inside.{placesOf}
 use Rattle.replica.proofs.OneToOne.{past-all, for-zero, below}
@@ -454,6 +454,10 @@ placed-below r s p k j h =
 
 -- ---- opening
 
+-- all shops are zeros
+pub openings-none : (ls : List Entry) (s : Shop) → s ≡ noShop → length ls ≡ 16 → Filled firstDay noShop 16 16 ls (replicate 16 s) 0
+openings-none ls s e l = subst (λ (x : Shop). Filled firstDay noShop 16 16 ls (replicate 16 x) 0) (sym e) (filled-none firstDay noShop 16 16 ls (omega arith) l)
+
 -- one more shop gets its opening as its balance
 pub openings-more : {ls : List Entry} {shops : List Shop} {i : ℕ} → Filled firstDay noShop 16 16 ls shops i → i < 16 → (z : Entry)
     → Filled firstDay noShop 16 16 ls
@@ -463,11 +467,11 @@ openings-more {ls} {i = i} p h z =
 
 module _ (text : List ℕ) (read : RegisterRead) (e : read ≡ registerRead text) where
   -- the register was read
-  pub open-fine : read .answer ≡ 0 → (x : Replica) → x ≡ fresh (read .register) → record { answer = read .answer; count = 0; balance = 0; replica = x } ≡ opened text
+  pub open-fine : read .answer ≡ 0 → (x : Replica) → x ≡ fresh (read .register) → (o : Outcome) → o ≡ did 0 x → o ≡ opened text
   unfolding opened
-  open-fine h x f =
+  open-fine h x f o g =
       let n : registerRead text .answer ≡ 0 = ap (λ (q : RegisterRead). q .answer) (sym e) ∙ h in
-      rw (n, opened) (λ j. record { answer = h j; count = 0; balance = 0; replica = (f ∙ ap (λ (q : RegisterRead). fresh (q .register)) e) j })
+      rw (n, opened) (g ∙ ap (did 0) (f ∙ ap (λ (q : RegisterRead). fresh (q .register)) e))
 
   -- it was refused
   pub open-refused : (read .answer ≡ 0 → ⊥) → (x : Replica) → x ≡ noReplica → (o : Outcome) → o ≡ refused (read .answer) x → o ≡ opened text

@@ -14,6 +14,7 @@ use Rattle.texts.proofs.Legal.{register-legal}
 use Rattle.replica.specs.declared.record.Shop.{Shop}
 use Rattle.replica.specs.declared.record.Line.{Line}
 use Rattle.replica.specs.declared.record.Replica.{Replica}
+use Rattle.replica.specs.declared.outcome.Outcome.{Outcome}
 use Rattle.replica.specs.Record.{shopCount, own, lineAt}
 use Rattle.replica.specs.State.{lawful}
 use Rattle.replica.specs.Settle.{firstWaiting, ready, apply, withoutFirst, NoneReady, Settles, waits, settled, applying}
@@ -35,14 +36,17 @@ module _ (self : Replica) (p : ℕ) where
   ready-is = refl
 
   -- nothing waits there
-  pub not-waiting : lineAt self p .count ≤ 0 → ready self p ≡ false
-  not-waiting h = ready-is ∙ ap (λ b. b && slipReady (self .shops) (shopCount self) p (firstWaiting self p)) (le-ltb 0 (lineAt self p .count) h)
+  pub not-waiting : lineAt self p .count ≡ 0 → ready self p ≡ false
+  not-waiting h = ready-is ∙ ap (λ b. b && slipReady (self .shops) (shopCount self) p (firstWaiting self p)) (le-ltb 0 (lineAt self p .count) (omega (arith, h)))
 
   -- its first slip decides
-  pub first-decides : (n : ℕ) (t u : Bool) → n ≡ shopCount self → 0 < lineAt self p .count → t ≡ slipReady (self .shops) n p (firstWaiting self p) → t ≡ u → ready self p ≡ u
+  pub first-decides : (n : ℕ) (t u : Bool) → n ≡ shopCount self → (lineAt self p .count ≡ 0 → ⊥) → t ≡ slipReady (self .shops) n p (firstWaiting self p) → t ≡ u → ready self p ≡ u
   first-decides n t u e h s v =
-      ready-is ∙ ap (λ b. b && slipReady (self .shops) (shopCount self) p (firstWaiting self p)) (lt-ltb 0 (lineAt self p .count) h)
+      ready-is ∙ ap (λ b. b && slipReady (self .shops) (shopCount self) p (firstWaiting self p)) (lt-ltb 0 (lineAt self p .count) (waiting h))
       ∙ ap (λ m. slipReady (self .shops) m p (firstWaiting self p)) (sym e) ∙ sym s ∙ v
+    where
+      waiting : (lineAt self p .count ≡ 0 → ⊥) → 0 < lineAt self p .count
+      waiting h = omega (arith, h)
 
 -- Of n shops those before p have no ready slip.
 pub record Scanned (self : Replica) (n p : ℕ) : Type 0 where
@@ -176,11 +180,11 @@ module _ {lent : List ℕ} {start : Replica} {n at : ℕ} {list : List ℕ} {sel
 
   -- no shop is ready any more
   pub going-done : (p : ℕ) → n ≤ p → Scanned self n p
-      → Gives (record { answer = 0; count = done; balance = 0; replica = self }) (did (length (applying start)) (settled start)) list (over (applying start) lent)
-  going-done p h Z =
+      → (o : Outcome) → o ≡ did done self → Gives o (did (length (applying start)) (settled start)) list (over (applying start) lent)
+  going-done p h Z r i =
       let S = stopped self (λ q l. Z .none q (omega (arith, G .count))) in
       let o : G .sofar ≡ applying start = sym (append-nil (G .sofar)) ∙ ap (λ x. G .sofar ++ x) (S .0) ∙ G .order in
-      record { outcome = ap₂ (λ (k : ℕ) (x : Replica). did k x) (sym (G .made) ∙ ap length o) (S .1 ∙ G .state); lent = G .bytes ∙ ap (λ x. over x lent) o }
+      record { outcome = i ∙ ap₂ (λ (k : ℕ) (x : Replica). did k x) (sym (G .made) ∙ ap length o) (S .1 ∙ G .state); lent = G .bytes ∙ ap (λ x. over x lent) o }
 
 -- ---- apply, as the code does it
 

@@ -374,18 +374,18 @@ module _ (self : Replica) (payee : List ℕ) (amount : ℕ) (buffer : List ℕ) 
           is-slip = is ∙ ap₂ (λ (x : Shop) (y : Code). slipWith (self .register .own) (x .applied + 1) y amount (depsFrom (self .register .shops) (marksOf (self .shops)))) (ours .0) is-code
 
           -- issued: the slip is written, its number is kept, the marks are 0
-          pub issue-done : (w : Written) (after : List ℕ) (shops : List Shop) → w ≡ slipWritten s buffer → after ≡ slipBuffer s buffer → shops ≡ map unmarked (self .shops)
-              → Gives (did (w .count) (record { register = self .register; issued = mine .shop .applied + 1; shops = shops; lines = self .lines })) (issued self payee amount buffer)
+          pub issue-done : (w : Written) (after : List ℕ) (shops : List Shop) → w ≡ slipWritten s buffer → after ≡ slipBuffer s buffer → shops ≡ map unmarked (self .shops) → (o : Outcome)
+              → o ≡ did (w .count) (record { register = self .register; issued = mine .shop .applied + 1; shops = shops; lines = self .lines }) → Gives o (issued self payee amount buffer)
               after (issuedBuffer self payee amount buffer)
           unfolding issued issuedBuffer issuing
-          issue-done w after shops i j k =
+          issue-done w after shops i j k o e =
               let text : List ℕ = issuedText self payee amount in
               let count : w .count ≡ length text =
               ap (λ (x : Written). x .count) (i ∙ ap (λ x. slipWritten x buffer) is-slip) ∙ slip-put (issuedSlip self payee amount) buffer slip-written .0 in
               let bytes : after ≡ over text buffer = j ∙ ap (λ x. slipBuffer x buffer) is-slip ∙ slip-put (issuedSlip self payee amount) buffer slip-written .1 in
               let then : record { register = self .register; issued = mine .shop .applied + 1; shops = shops; lines = self .lines } ≡ issuing self =
               ap₂ (λ (x : Shop) (l : List Shop). record { register = self .register; issued = x .applied + 1; shops = l; lines = self .lines }) (ours .0) k in
-              record { outcome = ap₂ (λ n r. did n r) count then ∙ sym (rw (answer-zero, issued)); lent = bytes ∙ sym (rw (answer-zero, issuedBuffer)) }
+              record { outcome = e ∙ ap₂ (λ n r. did n r) count then ∙ sym (rw (answer-zero, issued)); lent = bytes ∙ sym (rw (answer-zero, issuedBuffer)) }
 
 -- ---- what asking a balance answers
 

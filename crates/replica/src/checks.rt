@@ -2,7 +2,7 @@
 use crate::record::Waiting;
 use texts::Register;
 use texts::Slip;
-use texts::answers::DEPS as BAD_DEPS;
+use texts::answers::DEPS;
 use texts::answers::OK;
 use texts::answers::RANGE;
 use texts::answers::SELF;
@@ -26,7 +26,7 @@ pub(crate) struct Places {
     pub(crate) deps: [usize; SHOPS],
 }
 
-// Each code is looked up once.
+// Where the slip's codes stand; each is looked up once.
 pub(crate) fn places_of(register: Register, slip: Slip) -> Places
     requires { ⌜ slip .count ≤ mostDeps ⌝ }
     ensures { λ r. ⌜ r ≡ placesOf register slip ⌝ }
@@ -67,7 +67,7 @@ fn has_zero(slip: Slip) -> bool
     false
 }
 
-// Are the payer, the payee and the dependencies all among the n shops.
+// Are the payer, the payee and the dependencies all in the register.
 fn all_listed(register: Register, slip: Slip, places: Places) -> bool
     requires { ⌜ (registerAnswer register ≡ 0) × (slip .count ≤ mostDeps) × (places ≡ placesOf register slip) ⌝ }
     ensures { λ r. ⌜ r ≡ not (shop? register slip) ⌝ }
@@ -90,7 +90,7 @@ fn all_listed(register: Register, slip: Slip, places: Places) -> bool
     true
 }
 
-// Do the dependencies stand in strictly rising position, and none names the payer.
+// Do the dependencies stand in strictly rising position, and none names the payer (the register is there for the statement).
 fn deps_rise(register: Register, slip: Slip, places: Places) -> bool
     requires { ⌜ (slip .count ≤ mostDeps) × (places ≡ placesOf register slip) ⌝ }
     ensures { λ r. ⌜ r ≡ rising register (places .payer) 0 (depsOf slip) ⌝ }
@@ -132,10 +132,11 @@ pub(crate) fn slip_answer(register: Register, slip: Slip, places: Places) -> u8
     if deps_rise(register, slip, places) {
         return OK;
     }
-    BAD_DEPS
+    DEPS
 }
 
-// The slip as it waits: from the last dependency to the first, each number goes to its shop's place.
+// The slip as it waits: from the last dependency to the first, each number goes to its shop's place (the register is there for the
+// statement).
 pub(crate) fn waiting_of(register: Register, slip: Slip, places: Places) -> Waiting
     requires { ⌜ (registerAnswer register ≡ 0) × (slipLayout .legal slip ≡ true) × (shop? register slip ≡ false) × (places ≡ placesOf register slip) ⌝ }
     ensures { λ r. ⌜ r ≡ waitingOf register slip ⌝ }
@@ -150,8 +151,8 @@ pub(crate) fn waiting_of(register: Register, slip: Slip, places: Places) -> Wait
     }
     Waiting {
         payer: places.payer,
-        number: slip.number,
         payee: places.payee,
+        number: slip.number,
         amount: slip.amount,
         needs,
     }

@@ -32,7 +32,7 @@ ghost use Rattle.replica.specs.State.{lawful};
 ghost use Rattle.replica.specs.Issue.{ownShop, unmarked, issued, issuedBuffer};
 ghost use Rattle.replica.specs.Inside.{marksOf, askRows};
 
-// The own shop on the day of the call: its numbers, how many of its slips wait, and the number that it issued last.
+// The own shop as issuing asks about it: its numbers, how many of its slips wait, and the number that it issued last.
 pub(crate) struct Own {
     pub(crate) shop: Shop,
     pub(crate) waits: usize,
@@ -89,11 +89,11 @@ fn issue_answer(register: Register, own: Own, payee: Code, amount: u32) -> u8
     ensures { λ r. ⌜ r ≡ answerOf (askRows register (own .shop) (own .waits) (own .issued) payee amount) ⌝ }
 {
     let shop = own.shop;
-    let me = register.own;
+    let own_code = register.own;
     if !register.lists(payee) {
         return SHOP;
     }
-    if payee.same(me) {
+    if payee.same(own_code) {
         return SELF;
     }
     if amount == 0 {
@@ -159,11 +159,6 @@ impl Replica {
         let cleared = unmark(shops);
         self.shops = cleared;
         self.issued = number;
-        Outcome {
-            answer: OK,
-            count: written.count,
-            balance: 0,
-            replica: self,
-        }
+        self.did(written.count)
     }
 }

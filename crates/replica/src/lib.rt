@@ -1,4 +1,5 @@
 // The replica: the register, the shops' numbers, the lines of waiting slips, and the steps over them.
+mod balance;
 pub mod bounds;
 mod checks;
 mod issue;

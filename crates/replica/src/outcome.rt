@@ -1,12 +1,13 @@
 // What open, take, issue and balance answer. A call that has no count or no balance to give has 0 there.
 use crate::record::Replica;
+use texts::answers::OK;
 ghost use mathlib.Core.Path.{_≡_};
-ghost use Rattle.replica.specs.Outcome.{refused};
+ghost use Rattle.replica.specs.Outcome.{refused, did};
 
 pub struct Outcome {
     pub answer: u8,
-    pub count: usize,
     pub balance: u32,
+    pub count: usize,
     pub replica: Replica,
 }
 
@@ -17,8 +18,20 @@ impl Replica {
     {
         Outcome {
             answer,
-            count: 0,
             balance: 0,
+            count: 0,
+            replica: self,
+        }
+    }
+
+    // The call is done: 0, with its count.
+    pub(crate) fn did(self, count: usize) -> Outcome
+        ensures { λ r. ⌜ r ≡ did count self ⌝ }
+    {
+        Outcome {
+            answer: OK,
+            balance: 0,
+            count,
             replica: self,
         }
     }

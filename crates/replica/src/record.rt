@@ -3,7 +3,7 @@ use crate::bounds::WAITING;
 use texts::Register;
 use texts::bounds::SHOPS;
 ghost use mathlib.Core.Path.{_≡_};
-ghost use Rattle.replica.specs.Record.{noWaiting, noLine, noReplica};
+ghost use Rattle.replica.specs.Record.{noShop, noWaiting, noLine, noReplica};
 
 // Per shop: the balance, the number taken in, the number applied, the mark.
 pub struct Shop {
@@ -13,12 +13,12 @@ pub struct Shop {
     pub mark: u32,
 }
 
-// A waiting slip by position: the payer's position, the slip's number, the payee's position, the amount, and per shop the number
+// A waiting slip by position: the payer's position, the payee's position, the slip's number, the amount, and per shop the number
 // that must be applied there (0: none).
 pub struct Waiting {
     pub payer: usize,
-    pub number: u32,
     pub payee: usize,
+    pub number: u32,
     pub amount: u32,
     pub needs: [u32; SHOPS],
 }
@@ -37,6 +37,20 @@ pub struct Replica {
     pub lines: [Line; SHOPS],
 }
 
+impl Shop {
+    // The shop of zeros.
+    pub(crate) fn none() -> Self
+        ensures { λ r. ⌜ r ≡ noShop ⌝ }
+    {
+        Shop {
+            balance: 0,
+            taken: 0,
+            applied: 0,
+            mark: 0,
+        }
+    }
+}
+
 impl Waiting {
     // The waiting slip of zeros.
     pub(crate) fn none() -> Self
@@ -44,8 +58,8 @@ impl Waiting {
     {
         Waiting {
             payer: 0,
-            number: 0,
             payee: 0,
+            number: 0,
             amount: 0,
             needs: [0u32; SHOPS],
         }
@@ -67,17 +81,12 @@ impl Line {
 
 impl Replica {
     // The record of zeros, which every call refuses.
-    pub(crate) fn none() -> Self
+    pub fn none() -> Self
         ensures { λ r. ⌜ r ≡ noReplica ⌝ }
     {
         let register = Register::none();
         let line = Line::none();
-        let shop = Shop {
-            balance: 0,
-            taken: 0,
-            applied: 0,
-            mark: 0,
-        };
+        let shop = Shop::none();
         Replica {
             register,
             issued: 0,

@@ -5,7 +5,6 @@ use crate::record::Line;
 use crate::record::Replica;
 use crate::record::Shop;
 use crate::record::Waiting;
-use texts::answers::OK;
 use texts::bounds::SHOPS;
 ghost use mathlib.Core.Path.{_≡_};
 ghost use mathlib.Core.Bool.{true, false};
@@ -16,7 +15,6 @@ ghost use Rattle.texts.specs.Written.{over};
 ghost use Rattle.replica.specs.Bounds.{listRoom, mostCredit, mostWaiting};
 ghost use Rattle.replica.specs.State.{lawful};
 ghost use Rattle.replica.specs.Settle.{paying, paid, settled, applying, withoutFirst};
-ghost use Rattle.replica.specs.Take.{withLast};
 ghost use Rattle.replica.specs.Outcome.{did};
 ghost use Rattle.replica.specs.Inside.{needsApplied, slipReady, movedFunds, Movable};
 
@@ -45,6 +43,7 @@ fn slip_ready(shops: [Shop; SHOPS], n: usize, payer: usize, slip: Waiting) -> bo
     if slip.number <= shop.applied {
         return false;
     }
+    // subtracted, so that no record can make it overflow
     if slip.number - shop.applied != 1 {
         return false;
     }
@@ -56,13 +55,13 @@ fn slip_ready(shops: [Shop; SHOPS], n: usize, payer: usize, slip: Waiting) -> bo
 
 impl Shop {
     // The shop when its slip of that number is applied: the amount leaves it, and it is marked where it pays the own shop.
-    fn paying(mut self, marks: bool, number: u32, amount: u32) -> Self
+    fn paying(mut self, to_own: bool, number: u32, amount: u32) -> Self
         requires { ⌜ (amount ≤ self .balance) × (self .applied ≤ most) ⌝ }
-        ensures { λ r. ⌜ r ≡ paying marks number amount self ⌝ }
+        ensures { λ r. ⌜ r ≡ paying «to_own» number amount self ⌝ }
     {
         self.balance = self.balance - amount;
         self.applied = self.applied + 1;
-        if marks {
+        if to_own {
             self.mark = number;
         }
         self
@@ -92,17 +91,6 @@ fn moved(mut shops: [Shop; SHOPS], own: usize, payer: usize, slip: Waiting) -> [
 }
 
 impl Line {
-    // The line with one slip more, last.
-    pub(crate) fn with_last(mut self, slip: Waiting) -> Self
-        requires { ⌜ self .count < mostWaiting ⌝ }
-        ensures { λ r. ⌜ r ≡ withLast self slip ⌝ }
-    {
-        let n = self.count;
-        self.slips[n] = slip;
-        self.count = n + 1;
-        self
-    }
-
     // The line when its first slip is gone: the others move up, and the place freed is zero.
     fn without_first(mut self) -> Self
         requires { ⌜ (0 < self .count) × (self .count ≤ mostWaiting) ⌝ }
@@ -137,13 +125,15 @@ impl Replica {
                 if n <= at {
                     break 'settle;
                 }
-                if 0 < self.lines[at].count {
-                    let line = self.lines[at];
-                    let slip = line.slips[0];
-                    let shops = self.shops;
-                    if slip_ready(shops, n, at, slip) {
-                        break 'scan;
-                    }
+                if self.lines[at].count == 0 {
+                    at += 1;
+                    continue 'scan;
+                }
+                let line = self.lines[at];
+                let slip = line.slips[0];
+                let shops = self.shops;
+                if slip_ready(shops, n, at, slip) {
+                    break 'scan;
                 }
                 at += 1;
             }
@@ -157,11 +147,6 @@ impl Replica {
             list[done] = at as u8;
             done += 1;
         }
-        Outcome {
-            answer: OK,
-            count: done,
-            balance: 0,
-            replica: self,
-        }
+        self.did(done)
     }
 }

@@ -222,6 +222,7 @@ fn own_kept(own: Shop, issued: u32) -> bool
     if issued == 0 {
         return true;
     }
+    // subtracted, so that no record can make it overflow
     issued - 1 <= own.applied
 }
 

@@ -5,7 +5,9 @@ use crate::checks::places_of;
 use crate::checks::slip_answer;
 use crate::checks::waiting_of;
 use crate::outcome::Outcome;
+use crate::record::Line;
 use crate::record::Replica;
+use crate::record::Waiting;
 use texts::Slip;
 use texts::answers::FULL;
 use texts::answers::NUMBER;
@@ -15,13 +17,26 @@ use texts::answers::STATE;
 use texts::read_slip;
 ghost use mathlib.Core.Path.{_≡_};
 ghost use mathlib.Core.Bool.{true};
-ghost use Prim.Native.Nat.{_≤_};
+ghost use Prim.Native.Nat.{_≤_, _<_};
 ghost use lib.ListN.{length};
 ghost use Rattle.texts.specs.Slip.{slipLayout};
-ghost use Rattle.replica.specs.Bounds.{listRoom};
+ghost use Rattle.replica.specs.Bounds.{listRoom, mostWaiting};
 ghost use Rattle.replica.specs.State.{lawful};
-ghost use Rattle.replica.specs.Take.{taken, takenList};
+ghost use Rattle.replica.specs.Take.{withLast, taken, takenList};
 ghost use Rattle.replica.specs.Inside.{tookSlip, tookList};
+
+impl Line {
+    // The line with one slip more, last.
+    fn with_last(mut self, slip: Waiting) -> Self
+        requires { ⌜ self .count < mostWaiting ⌝ }
+        ensures { λ r. ⌜ r ≡ withLast self slip ⌝ }
+    {
+        let n = self.count;
+        self.slips[n] = slip;
+        self.count = n + 1;
+        self
+    }
+}
 
 impl Replica {
     // Takes in a slip that was read: the checks 4, 2, 3, 5, 6, 7; accepted, it goes last in its payer's line, then settle.

@@ -11,7 +11,7 @@ use lib.Dec.{ltb}
 use borrow.Author.Tests.{lt-ltb, le-ltb}
 use Rattle.texts.specs.Bounds.{mostShops}
 use Rattle.texts.specs.Code.{sameCode}
-use Rattle.texts.specs.Register.{place, twins, shopsOf, position, listed, ownRows, registerLayout, registerAnswer}
+use Rattle.texts.specs.Register.{place, twins, shopsOf, position, listed, shopsRows, registerLayout, registerAnswer}
 use Rattle.texts.specs.Answers.{Meaning, answerOf}
 use Rattle.texts.specs.declared.code.Code.{Code}
 use Rattle.texts.specs.declared.entry.Entry.{Entry}
@@ -162,24 +162,24 @@ module _ (r : Register) (n : ℕ) (h : n ≡ length (shopsOf r)) (t : Bool) (e :
   twins-is = e ∙ ap twins (in-use r n h)
 
   -- equal codes: 12
-  pub own-twin : t ≡ true → 12 ≡ answerOf (ownRows r)
-  own-twin y = sym (applies Meaning.twin _ _ (sym twins-is ∙ y))
+  pub shops-twin : t ≡ true → 12 ≡ answerOf (shopsRows r)
+  shops-twin y = sym (applies Meaning.twin _ _ (sym twins-is ∙ y))
 
   module _ (no : t ≡ false) (l : Bool) (d : l ≡ listed r (r .own)) where
     -- none, and the own code is listed: 0
-    pub own-fine : l ≡ true → 0 ≡ answerOf (ownRows r)
-    own-fine y = sym (passes-by Meaning.twin _ _ (sym twins-is ∙ no) ∙ passes-by Meaning.shop _ _ (ap not (sym d ∙ y)) ∙ no-rows)
+    pub shops-fine : l ≡ true → 0 ≡ answerOf (shopsRows r)
+    shops-fine y = sym (passes-by Meaning.twin _ _ (sym twins-is ∙ no) ∙ passes-by Meaning.shop _ _ (ap not (sym d ∙ y)) ∙ no-rows)
 
     -- none, and it is not listed: 2
-    pub own-not-listed : l ≡ false → 2 ≡ answerOf (ownRows r)
+    pub own-not-listed : l ≡ false → 2 ≡ answerOf (shopsRows r)
     own-not-listed y = sym (passes-by Meaning.twin _ _ (sym twins-is ∙ no) ∙ applies Meaning.shop _ _ (ap not (sym d ∙ y)))
 
 -- the answer, from the test that it has a text
 module _ (r : Register) (f : Bool) (e : f ≡ registerLayout .legal r) where
   -- it has one: the other rows decide
-  pub answer-own : f ≡ true → (n : ℕ) → n ≡ answerOf (ownRows r) → n ≡ registerAnswer r
+  pub answer-shops : f ≡ true → (n : ℕ) → n ≡ answerOf (shopsRows r) → n ≡ registerAnswer r
   unfolding registerAnswer
-  answer-own y n h = h ∙ sym (passes-by Meaning.form _ _ (ap not (sym e ∙ y)))
+  answer-shops y n h = h ∙ sym (passes-by Meaning.form _ _ (ap not (sym e ∙ y)))
 
   -- it has none: 1
   pub answer-form : f ≡ false → 1 ≡ registerAnswer r

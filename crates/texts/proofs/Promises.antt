@@ -13,7 +13,7 @@ use Rattle.texts.specs.Bounds.{registerRoom}
 use Rattle.texts.specs.Layout.{Layout, past, whole}
 use Rattle.texts.specs.Answers.{first, answerOf, form, room}
 use Rattle.texts.specs.Written.{over, answered, buffered}
-use Rattle.texts.specs.Register.{noRegister, registerLayout, registerIn, listed, ownRows, registerAnswer, registerTextAnswer, registerRead, registerWriteAnswer, shopLine, shopsOf, position}
+use Rattle.texts.specs.Register.{noRegister, registerLayout, registerIn, listed, shopsRows, registerAnswer, registerTextAnswer, registerRead, registerWriteAnswer, shopLine, shopsOf, position}
 use Rattle.texts.specs.Slip.{slipLayout, slipIn, slipRead, slipWriteAnswer}
 use Rattle.texts.specs.Lawful.{Lawful}
 use Rattle.texts.specs.Payee.{Part, payeePart, shown, beforePayee, inRegister, payeeOf}
@@ -104,7 +104,7 @@ unfolding first
 slip-reads-back s d e =
     ap slipRead (front (slipWriteAnswer s d) (slipLayout .text s) d e) ∙ sym (slip-answer (slipLayout .text s) (some s) (slip-back s (slip-wrote s d e)))
 
-register-wrote : (r : Register) (d : List ℕ) → registerWriteAnswer r d ≡ 0 → (registerLayout .legal r ≡ true) × (answerOf (ownRows r) ≡ 0)
+register-wrote : (r : Register) (d : List ℕ) → registerWriteAnswer r d ≡ 0 → (registerLayout .legal r ≡ true) × (answerOf (shopsRows r) ≡ 0)
 unfolding registerWriteAnswer
 register-wrote r d e = let one = first-zero form _ _ (omega arith) (first-zero room _ _ (omega arith) e .1) in (not-false _ (one .0), one .1)
 

@@ -1,16 +1,18 @@
 -- Reading with a cursor: what the loops found, and what lines put together answer, as `Reads` of a layout.
 use mathlib.Core.Path.{_≡_, refl, sym, ap, ap₂, _∙_, subst}
-use mathlib.Core.Bool.{Bool, true, false, _&&_, false≢true}
+use mathlib.Core.Bool.{Bool, true, false, not, _&&_, false≢true}
 use mathlib.Core.Option.{Option, none, some}
 use mathlib.Core.List.{List, [], _∷_, _++_}
 use Prim.Native.Nat.{ℕ, zero, suc, _+_, _-_, _≤_, _<_}
 use native.Mathlib.Omega.{arith}
 use native.Mathlib.Numerals.{add-one}
-use native.Mathlib.Nat.{add-assoc}
-use lib.Dec.{eqb, leb}
+use native.Mathlib.Nat.{add-assoc, lt-of-le-of-lt}
+use lib.Dec.{eqb, leb, ltb}
 use lib.ListN.{length, take, drop, getD, set, replicate, length-append, length-drop, length-replicate, length-set, take-append-drop, drop-of-length-le, List·getD-append}
 use lib.Seq.{take-all, take-suc-set, drop-drop, drop-cons, drop-set-lt, length-take-le, take-length}
-use borrow.Author.Tests.{eqb-true, eqb-false, leb-true, le-leb}
+use borrow.Author.Tests.{eqb-true, eqb-false, eq-eqb, leb-true, le-leb, ltb-true, lt-ltb, not-true, not-false}
+use mir.Syntax.{w64}
+use mir.Val.{Fits}
 use Rattle.texts.specs.Bounds.{codePlaces}
 use Rattle.texts.specs.Bytes.{allOf, _>>=_, given}
 use Rattle.texts.specs.Layout.{Layout, past, word, _⟫_, _then_, of, key, shut, joined, several, group, ended, whole}
@@ -19,7 +21,7 @@ use Rattle.texts.specs.Code.{code}
 use Rattle.texts.specs.Inside.{Reads, Common, Counted, Held}
 use Rattle.texts.specs.declared.code.Code.{Code}
 use Rattle.texts.specs.declared.cursor.Cursor.{Cursor}
-use Rattle.texts.proofs.Steps.{bind-at, bind-some, bind-none, given-at, given-some}
+use Rattle.texts.proofs.Steps.{both, and, bind-at, bind-some, bind-none, given-at, given-some}
 use Rattle.texts.proofs.Laws.{past-back, past-only}
 use Rattle.texts.proofs.LawsLeaf.{finish}
 
@@ -37,36 +39,37 @@ part s at = take (length s - at) (drop at s)
 pub part-all : (s : List ℕ) (at : ℕ) → part s at ≡ drop at s
 part-all s at = take-all (length s - at) (drop at s) (omega (arith, length-drop at s))
 
-module _ {A : Type 0} {L : Layout A} {s : List ℕ} {c : Cursor} {v : A} where
-  -- one that has stopped stays
-  pub reads-dead : c .ok ≡ false → Reads L s c v (record { at = c .at; ok = false })
-  reads-dead h = record {
-    stays = λ e i. record { at = c .at; ok = sym e i };
+-- t says whether one can go on; it can: it stands in the text
+pub goes-inside : (ok : Bool) (at n : ℕ) (t : Bool) → t ≡ ok && leb at n → not t ≡ false → at ≤ n
+goes-inside ok at n t e can = leb-true at n (both ok (leb at n) (sym e ∙ not-false t can) .1)
+
+-- and has not stopped
+goes-live : (ok : Bool) (at n : ℕ) (t : Bool) → t ≡ ok && leb at n → not t ≡ false → ok ≡ true
+goes-live ok at n t e can = both ok (leb at n) (sym e ∙ not-false t can) .0
+
+module _ {A : Type 0} {L : Layout A} {s : List ℕ} {c : Cursor} {v : A} (t : Bool) (e : t ≡ c .ok && leb (c .at) (length s)) where
+  -- one that cannot stays, or stops at once
+  pub reads-stopped : not t ≡ true → Reads L s c v (record { at = c .at; ok = false })
+  reads-stopped cannot = record {
+    stays = λ k i. record { at = c .at; ok = sym k i };
     within = λ l. l;
-    got = λ _ e. absurd (false≢true e);
-    stuck = λ _ o _. absurd (false≢true (sym h ∙ o));
+    got = λ _ k. absurd (false≢true k);
+    stuck = λ l k _. absurd (false≢true (sym (not-true t cannot) ∙ e ∙ and (c .ok) _ k (le-leb (c .at) (length s) l)));
   }
 
-  -- one past the end stops
-  pub reads-past : length s < c .at → Reads L s c v (record { at = c .at; ok = false })
-  reads-past h = record {
-    stays = λ e i. record { at = c .at; ok = sym e i };
-    within = λ l. l;
-    got = λ l _. absurd (omega arith);
-    stuck = λ l _ _. absurd (omega arith);
-  }
-
-  -- one that reads at the part before it, and passes n bytes of it
-  pub reads-here : (n : ℕ) (b : Bool) → c .ok ≡ true → c .at ≤ length s → n ≤ length (part s (c .at))
+  -- one that can reads at the part before it, and passes n bytes of it
+  pub reads-here : (n : ℕ) (b : Bool) → not t ≡ false → n ≤ length (part s (c .at))
       → (b ≡ true → L .read (part s (c .at)) ≡ some (v, drop n (part s (c .at)))) → (b ≡ false → L .read (part s (c .at)) ≡ none)
       → Reads L s c v (record { at = c .at + n; ok = b })
-  reads-here n b live l m there missing =
-      let e = part-all s (c .at) in
+  reads-here n b can m there missing =
+      let live = goes-live (c .ok) (c .at) (length s) t e can in
+      let inside = goes-inside (c .ok) (c .at) (length s) t e can in
+      let p = part-all s (c .at) in
       record {
         stays = λ dead. absurd (false≢true (sym dead ∙ live));
-        within = λ _. omega (arith, ap length e, length-drop (c .at) s);
-        got = λ _ h. ap (L .read) (sym e) ∙ there h ∙ ap (λ t. some (v, drop n t)) e ∙ ap (λ t. some (v, t)) (drop-drop n (c .at) s);
-        stuck = λ _ _ h. ap (L .read) (sym e) ∙ missing h;
+        within = λ _. omega (arith, ap length p, length-drop (c .at) s);
+        got = λ _ h. ap (L .read) (sym p) ∙ there h ∙ ap (λ t. some (v, drop n t)) p ∙ ap (λ t. some (v, t)) (drop-drop n (c .at) s);
+        stuck = λ _ _ h. ap (L .read) (sym p) ∙ missing h;
       }
 
 -- ---- a word
@@ -86,11 +89,11 @@ module _ (t w : List ℕ) (n : ℕ) (q : Common t w n) where
       let k = ap length f ∙ length-append w r in
       q .stop (omega arith) m (ap (λ x. getD x n 0) f ∙ List·getD-append w r 0 n m)))
 
-pub reads-word : {s : List ℕ} {c : Cursor} (w : List ℕ) (n : ℕ) → c .ok ≡ true → c .at ≤ length s → Common (part s (c .at)) w n
-    → Reads (word w) s c tt (record { at = c .at + n; ok = eqb n (length w) })
-reads-word {s} {c} w n live l q =
-    reads-here n (eqb n (length w)) live l (q .in-t) (λ e. word-there (part s (c .at)) w n q (eqb-true n (length w) e))
-    (λ e. word-missing (part s (c .at)) w n q (eqb-false n (length w) e))
+module _ {s : List ℕ} {c : Cursor} (t : Bool) (e : t ≡ c .ok && leb (c .at) (length s)) (can : not t ≡ false) where
+  pub reads-word : (w : List ℕ) (n : ℕ) → Common (part s (c .at)) w n → Reads (word w) s c tt (record { at = c .at + n; ok = eqb n (length w) })
+  reads-word w n q =
+      reads-here t e n (eqb n (length w)) can (q .in-t) (λ k. word-there (part s (c .at)) w n q (eqb-true n (length w) k))
+      (λ k. word-missing (part s (c .at)) w n q (eqb-false n (length w) k))
 
 -- ---- a number
 
@@ -107,15 +110,13 @@ module _ (t : List ℕ) (width least upper n v : ℕ) (q : Counted t width upper
   number-low h =
       bind-at _ (λ p. given (leb least (p .0) && leb (p .0) upper) p) _ makes-all ∙ ap (λ b. given (b && leb v upper) (v, drop n t)) h
 
-pub reads-number : {s : List ℕ} {c : Cursor} (width least upper n v : ℕ) → c .ok ≡ true → c .at ≤ length s → Counted (part s (c .at)) width upper n v → n ≡ width
-    → Reads (number width least upper) s c v (record { at = c .at + n; ok = leb least v })
-reads-number {s} {c} width least upper n v live l q e =
-    reads-here n (leb least v) live l (q .in-t) (number-there (part s (c .at)) width least upper n v q e) (number-low (part s (c .at)) width least upper n v q e)
+module _ {s : List ℕ} {c : Cursor} (t : Bool) (e : t ≡ c .ok && leb (c .at) (length s)) (can : not t ≡ false) (width least upper n v : ℕ)
+    (q : Counted (part s (c .at)) width upper n v) where
+  pub reads-number : n ≡ width → Reads (number width least upper) s c v (record { at = c .at + n; ok = leb least v })
+  reads-number k = reads-here t e n (leb least v) can (q .in-t) (number-there (part s (c .at)) width least upper n v q k) (number-low (part s (c .at)) width least upper n v q k)
 
-pub reads-short : {s : List ℕ} {c : Cursor} (width least upper n v : ℕ) → c .ok ≡ true → c .at ≤ length s → Counted (part s (c .at)) width upper n v → (n ≡ width → ⊥)
-    → Reads (number width least upper) s c 0 (record { at = c .at + n; ok = false })
-reads-short {s} {c} width least upper n v live l q e =
-    reads-here n false live l (q .in-t) (λ f. absurd (false≢true f)) (λ _. q .stop (omega (arith, q .in-width, e)) least)
+  pub reads-short : (n ≡ width → ⊥) → Reads (number width least upper) s c 0 (record { at = c .at + n; ok = false })
+  reads-short k = reads-here t e n false can (q .in-t) (λ f. absurd (false≢true f)) (λ _. q .stop (omega (arith, q .in-width, k)) least)
 
 -- ---- a code
 
@@ -153,25 +154,49 @@ module _ (t : List ℕ) (b : ℕ) (x : Code) (q : Held t x) where
       let m : x .len < length t = omega (arith, ap length rest, length-drop (x .len) t) in
       h (omega (arith, front-length, leb-true 1 (length ds) (k .0))) m (ap (λ y. getD y 0 0) (sym (drop-cons t (x .len) 0 m) ∙ rest))))
 
-pub reads-code : {s : List ℕ} {c : Cursor} (b : ℕ) (x : Code) → c .ok ≡ true → c .at ≤ length s → Held (part s (c .at)) x → 0 < x .len → x .len < length (part s (c .at))
-    → getD (part s (c .at)) (x .len) 0 ≡ b → Reads (code b) s c x (record { at = c .at + x .len + 1; ok = true })
-reads-code {s} {c} b x live l q h m e =
-    rw (add-assoc (c .at) (x .len) 1)
-    (reads-here (x .len + 1) true live l (omega arith) (λ _. code-there (part s (c .at)) b x q h m e) (λ f. absurd (false≢true (sym f))))
+-- u says whether a code is closed: there are digits, and the closing byte follows them
+abbrev closed : List ℕ → ℕ → ℕ → Bool
+closed t n b = leb 1 n && (ltb n (length t) && eqb (getD t n 0) b)
 
-pub reads-no-code : {s : List ℕ} {c : Cursor} (b : ℕ) (x y : Code) → c .ok ≡ true → c .at ≤ length s → Held (part s (c .at)) x
-    → (0 < x .len → x .len < length (part s (c .at)) → getD (part s (c .at)) (x .len) 0 ≡ b → ⊥) → Reads (code b) s c y (record { at = c .at + x .len; ok = false })
-reads-no-code {s} {c} b x y live l q h =
-    reads-here (x .len) false live l (q .in-t) (λ f. absurd (false≢true f)) (λ _. code-missing (part s (c .at)) b x q h)
+-- it is
+module _ (t : List ℕ) (n b : ℕ) (u : Bool) (e : u ≡ closed t n b) (is : u ≡ true) where
+  first : (leb 1 n ≡ true) × (ltb n (length t) && eqb (getD t n 0) b ≡ true)
+  first = both (leb 1 n) (ltb n (length t) && eqb (getD t n 0) b) (sym e ∙ is)
 
--- nothing follows the digits, or there are none
-pub reads-no-code-end : {s : List ℕ} {c : Cursor} (b : ℕ) (x y : Code) → c .ok ≡ true → c .at ≤ length s → Held (part s (c .at)) x → length (part s (c .at)) ≤ x .len
-    → Reads (code b) s c y (record { at = c .at + x .len; ok = false })
-reads-no-code-end b x y live l q h = reads-no-code b x y live l q (λ _ m _. omega arith)
+  closed-some : 0 < n
+  closed-some = leb-true 1 n (first .0)
 
-pub reads-no-digit : {s : List ℕ} {c : Cursor} (b : ℕ) (x y : Code) → c .ok ≡ true → c .at ≤ length s → Held (part s (c .at)) x → x .len ≤ 0
-    → Reads (code b) s c y (record { at = c .at + x .len; ok = false })
-reads-no-digit b x y live l q h = reads-no-code b x y live l q (λ m _ _. omega arith)
+  closed-before : n < length t
+  closed-before = ltb-true n (length t) (both (ltb n (length t)) (eqb (getD t n 0) b) (first .1) .0)
+
+  closed-there : getD t n 0 ≡ b
+  closed-there = eqb-true (getD t n 0) b (both (ltb n (length t)) (eqb (getD t n 0) b) (first .1) .1)
+
+-- the place after it fits
+pub closed-fits : (s : List ℕ) (at n b : ℕ) (u : Bool) → u ≡ closed (part s at) n b → u ≡ true → at ≤ length s → Fits w64 (length s) → Fits w64 (at + n + 1)
+closed-fits s at n b u e is l f =
+    let before = closed-before (part s at) n b u e is in
+    let within : at + n + 1 ≤ length s = omega (arith, ap length (part-all s at), length-drop at s) in
+    record { fits = lt-of-le-of-lt within (f .fits) }
+
+-- it is not
+not-closed : (t : List ℕ) (n b : ℕ) (u : Bool) → u ≡ closed t n b → u ≡ false → 0 < n → n < length t → getD t n 0 ≡ b → ⊥
+not-closed t n b u e isnt h l k = false≢true (sym isnt ∙ e ∙ and (leb 1 n) _ (le-leb 1 n h) (and (ltb n (length t)) _ (lt-ltb n (length t) l) (eq-eqb (getD t n 0) b k)))
+
+module _ {s : List ℕ} {c : Cursor} (t : Bool) (e : t ≡ c .ok && leb (c .at) (length s)) (goes : not t ≡ false) (b : ℕ) (x : Code) (q : Held (part s (c .at)) x)
+    (u : Bool) (f : u ≡ closed (part s (c .at)) (x .len) b) where
+  pub reads-code : u ≡ true → Reads (code b) s c x (record { at = c .at + x .len + 1; ok = true })
+  reads-code is =
+      let p = part s (c .at) in
+      let l = closed-before p (x .len) b u f is in
+      rw (add-assoc (c .at) (x .len) 1)
+      (reads-here t e (x .len + 1) true goes (omega arith) (λ _. code-there p b x q (closed-some p (x .len) b u f is) l (closed-there p (x .len) b u f is))
+      (λ k. absurd (false≢true (sym k))))
+
+  pub reads-no-code : (y : Code) → u ≡ false → Reads (code b) s c y (record { at = c .at + x .len; ok = false })
+  reads-no-code y isnt =
+      let p = part s (c .at) in
+      reads-here t e (x .len) false goes (q .in-t) (λ k. absurd (false≢true k)) (λ _. code-missing p b x q (not-closed p (x .len) b u f isnt))
 
 -- ---- one after the other
 

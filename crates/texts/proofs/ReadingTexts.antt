@@ -12,7 +12,7 @@ use Rattle.texts.specs.Code.{code}
 use Rattle.texts.specs.Lines.{six}
 use Rattle.texts.specs.Entries.{entryParts, partsEntry, entryLine}
 use Rattle.texts.specs.Answers.{first, answerOf, form}
-use Rattle.texts.specs.Register.{noRegister, shopsLine, shopLines, ownLine, registerParts, partsRegister, registerLayout, registerIn, ownRows, registerRows, registerTextAnswer, registerRead}
+use Rattle.texts.specs.Register.{noRegister, shopsLine, shopLines, ownLine, registerParts, partsRegister, registerLayout, registerIn, shopsRows, registerRows, registerTextAnswer, registerRead}
 use Rattle.texts.specs.Slip.{noSlip, payerLine, slipNumberLine, payeeLine, amountLine, depsLine, depLines, slipParts, partsSlip, slipLayout, slipIn, slipRead}
 use Rattle.texts.specs.Inside.{Reads}
 use Rattle.texts.specs.declared.code.Code.{Code}
@@ -80,14 +80,14 @@ register-alike s t e = sym (register-answer s (registerIn t) e) ∙ register-ans
 
 module _ {s : List ℕ} {c e : Cursor} {v : Register} (P : Reads registerLayout s c v e) (start : (c .at ≡ 0) × (c .ok ≡ true)) (t : Bool) (tested : t ≡ e .ok && eqb (e .at) (length s)) where
   -- it was read: what is left to ask is twins and the own shop
-  register-form : t ≡ true → _≡_ {A = RegisterRead} (record { answer = answerOf (ownRows v); register = kept-if (answerOf (ownRows v)) v }) (registerRead s)
+  register-form : t ≡ true → _≡_ {A = RegisterRead} (record { answer = answerOf (shopsRows v); register = kept-if (answerOf (shopsRows v)) v }) (registerRead s)
   unfolding registerIn first
   register-form h = register-answer s (some v) (whole-read P (start .0) (start .1) (sym tested ∙ h))
 
-  pub register-there : (answer : ℕ) → answer ≡ answerOf (ownRows v) → t ≡ true → answer ≡ 0 → _≡_ {A = RegisterRead} (record { answer = answer; register = v }) (registerRead s)
+  pub register-there : (answer : ℕ) → answer ≡ answerOf (shopsRows v) → t ≡ true → answer ≡ 0 → _≡_ {A = RegisterRead} (record { answer = answer; register = v }) (registerRead s)
   register-there answer same h ok = ap (λ n. record { answer = n; register = v }) ok ∙ ap (λ n. record { answer = n; register = kept-if n v }) (sym ok ∙ same) ∙ register-form h
 
-  pub register-refused : (answer : ℕ) (z : Register) → z ≡ noRegister → answer ≡ answerOf (ownRows v) → t ≡ true → (answer ≡ 0 → ⊥)
+  pub register-refused : (answer : ℕ) (z : Register) → z ≡ noRegister → answer ≡ answerOf (shopsRows v) → t ≡ true → (answer ≡ 0 → ⊥)
       → _≡_ {A = RegisterRead} (record { answer = answer; register = z }) (registerRead s)
   register-refused answer z zeros same h bad = ap (λ z. record { answer = answer; register = z }) zeros ∙ go answer bad ∙ ap (λ n. record { answer = n; register = kept-if n v }) same ∙ register-form h
     where

@@ -16,7 +16,7 @@ use borrow.Author.Tests.{leb-true}
 use borrow.Author.Needs.{fits-under}
 use mir.Syntax.{w32}
 use mir.Val.{Fits}
-use Rattle.texts.specs.Bounds.{codePlaces}
+use Rattle.texts.specs.Bounds.{codePlaces, numberWidth}
 use Rattle.texts.specs.Bytes.{given}
 use Rattle.texts.specs.Leaf.{digit, oneMore, numeral, number, run}
 use Rattle.texts.specs.Inside.{Counted, Held}
@@ -153,19 +153,19 @@ module _ {t : List ℕ} {width upper v unit i : ℕ} (q : Spelling t width upper
         let g = numeral-grows t (i + 1) (width - (i + 1)) next (drop (i + 1) t) (numeral-more t i v (q .makes) m d) p (ap (λ n. numeral n t) k ∙ e) in
         omega (arith, ap (λ u. next * u) unit-less))
 
-    pub spelling-more : width ≤ 6 → next * (unit / 10) ≤ upper → Spelling t width upper next (unit / 10) (i + 1)
+    pub spelling-more : width ≤ numberWidth → next * (unit / 10) ≤ upper → Spelling t width upper next (unit / 10) (i + 1)
     spelling-more six f = record {
       in-t = omega arith;
       in-width = omega arith;
       small = next-small;
-      million = lt-of-lt-of-le next-small (pow-le-pow-right {n = 10} (lit< tt) {j = 6} (omega arith));
+      million = lt-of-lt-of-le next-small (pow-le-pow-right {n = 10} (lit< tt) {j = numberWidth} (omega arith));
       makes = numeral-more t i v (q .makes) m d;
       unit-is = unit-less;
       fits = rw unit-less at f;
     }
 
     -- the product that is compared fits
-    pub product-fits : width ≤ 6 → Fits w32 (next * (unit / 10))
+    pub product-fits : width ≤ numberWidth → Fits w32 (next * (unit / 10))
     product-fits six =
         let e : i + 1 + (width - (i + 1)) ≡ width = omega arith in
         let p : 10 ^ (i + 1) * 10 ^ (width - (i + 1)) ≡ 10 ^ width = sym (pow-add 10 (i + 1) (width - (i + 1))) ∙ ap (λ k. 10 ^ k) e in
@@ -174,10 +174,10 @@ module _ {t : List ℕ} {width upper v unit i : ℕ} (q : Spelling t width upper
         fits-under w32 _ 1000000 (rw unit-less b) tt
 
 -- the powers of ten, one more at a time
-pub power-more : (unit i : ℕ) → (unit ≡ 10 ^ i) × (unit ≤ 1000000) → i < 6 → (unit * 10 ≡ 10 ^ (i + 1)) × (unit * 10 ≤ 1000000)
+pub power-more : (unit i : ℕ) → (unit ≡ 10 ^ i) × (unit ≤ 1000000) → i < numberWidth → (unit * 10 ≡ 10 ^ (i + 1)) × (unit * 10 ≤ 1000000)
 power-more unit i q h =
     let e : unit * 10 ≡ 10 ^ (i + 1) = ap (λ x. x * 10) (q .0) ∙ sym (pow-suc 10 i) ∙ ap (λ k. 10 ^ k) (sym (add-one i)) in
-    (e, le-trans (le-of-eq e) (pow-le-pow-right {n = 10} (lit< tt) {j = 6} (omega arith)))
+    (e, le-trans (le-of-eq e) (pow-le-pow-right {n = 10} (lit< tt) {j = numberWidth} (omega arith)))
 
 -- ---- a code
 

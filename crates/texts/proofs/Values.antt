@@ -5,23 +5,24 @@ use mathlib.Core.List.{List, [], _∷_, _++_, map}
 use Prim.Native.Nat.{ℕ, zero, suc, _+_, _-_, _≤_, _<_}
 use native.Mathlib.Omega.{arith}
 use native.Mathlib.Numerals.{add-one}
-use lib.ListN.{length, take, drop, getD, set, replicate, drop-of-length-le, length-map}
-use lib.Seq.{drop-cons, take-nil, drop-nil, take-suc, take-at, take-length, drop-length, length-take-le, set-at, append-snoc}
+use lib.ListN.{length, take, drop, getD, replicate, drop-of-length-le, length-map}
+use lib.Seq.{drop-cons, take-nil, drop-nil, take-at, take-length, length-take-le}
 use lib.Dec.{leb, ltb, eqb, eqb·suc-zero, eqb·zero-suc}
-use borrow.Author.Tests.{lt-ltb, le-ltb, eq-eqb, ne-eqb, not-true, not-false}
+use borrow.Author.Tests.{leb-true, lt-ltb, le-ltb, eq-eqb, ne-eqb, not-true, not-false}
 use Rattle.texts.specs.Bounds.{most, mostDeps, mostShops, codePlaces}
 use Rattle.texts.specs.Bytes.{sameBytes, allOf}
-use Rattle.texts.specs.Leaf.{digit}
+use Rattle.texts.specs.Leaf.{digit, run}
 use Rattle.texts.specs.Code.{noCode, isCode, sameCode, spelled, codeOf}
 use Rattle.texts.specs.Entries.{isEntry, zeroEntry}
 use Rattle.texts.specs.Register.{shopsLine, shopLines, registerLayout}
 use Rattle.texts.specs.Slip.{slipLayout}
-use Rattle.texts.specs.Inside.{passes}
+use Rattle.texts.specs.Inside.{Held, passes}
 use Rattle.texts.specs.declared.code.Code.{Code}
 use Rattle.texts.specs.declared.entry.Entry.{Entry}
 use Rattle.texts.specs.declared.register.Register.{Register}
 use Rattle.texts.specs.declared.slip.Slip.{Slip}
-use Rattle.texts.proofs.Steps.{and, below, above, within}
+use Rattle.texts.proofs.Steps.{both, and, below, above, within}
+use Rattle.texts.proofs.LawsLeaf.{run-only}
 use Rattle.texts.proofs.Legal.{SlipLegal, slip-legal, RegisterFits, register-fits}
 
 -- ---- tests
@@ -190,70 +191,52 @@ code-keeps s h = go (spells s) refl
     go true e = ap spelled (code-of s true e) ∙ take-at s (replicate (codePlaces - length s) 0) (length s) refl
     go false e = absurd (false≢true (ap isCode (sym (code-of s false e)) ∙ h))
 
--- bytes that are all digits, as places that are all used
-all-used : (s : List ℕ) → allPass digit (eqb 0) (length s) s ≡ allOf digit s
-unfolding allOf
-all-used s = rw (take-length s, drop-length s) (and-true (allOf digit s))
+-- bytes that are all digits, no more than wanted, are their own run
+run-all : (n : ℕ) (s : List ℕ) → length s ≤ n → allOf digit s ≡ true → run n s ≡ (s, [])
+unfolding run allOf
+run-all zero [] h e = refl
+run-all zero (b ∷ s) h e = absurd (omega arith)
+run-all (suc n) [] h e = refl
+run-all (suc n) (b ∷ s) h e =
+    let k = both (digit b) (allOf digit s) e in
+    let i = run-all n s (omega arith) (k .1) in
+    rw (k .0, run, i)
 
--- the first i bytes of s stand in eight places, and the bytes from i on decide whether s is a code
-pub record CodeBegun (s ds : List ℕ) (i : ℕ) : Type 0 where
-  pub within : i ≤ length s
-  pub holds : ds ≡ take i s ++ replicate (codePlaces - i) 0
-  pub passed : Passed digit (eqb 0) (length s) s i
+module _ (s : List ℕ) (c : Code) (q : Held s c) where
+  -- c holds all the bytes: it is their code
+  pub held-all : c .len ≡ length s → c ≡ codeOf s
+  held-all e = whole ∙ go (length s) refl
+    where
+      kept : Code
+      kept = record { digits = s ++ replicate (codePlaces - length s) 0; len = length s }
 
--- no byte is taken over yet
-pub begun-none : (s : List ℕ) → CodeBegun s (replicate codePlaces 0) 0
-begun-none s = record { within = omega arith; holds = refl; passed = passed-none digit (eqb 0) (length s) s }
+      taken : take (c .len) s ≡ s
+      taken = ap (λ n. take n s) e ∙ take-length s
 
-module _ (s ds : List ℕ) (i : ℕ) (c : CodeBegun s ds i) (few : length s ≤ codePlaces) where
-  module _ (h : i < length s) (t : Bool) (e : t ≡ digit (getD s i 0)) where
-    -- the byte as a place that is used
-    is-used : t ≡ passes digit (eqb 0) (ltb i (length s)) (getD s i 0)
-    is-used = passes-at digit (eqb 0) (ltb i (length s)) (getD s i 0) t true (lt-ltb i (length s) h) e
+      whole : c ≡ kept
+      whole = (λ i. record { digits = (q .digits ∙ ap (λ l. l ++ replicate (codePlaces - c .len) 0) taken) i; len = c .len }) ∙ ap (λ n. record { digits = s ++ replicate (codePlaces - n) 0; len = n }) e
 
-    -- one more byte in its place
-    one-more : set ds i (getD s i 0) ≡ take (i + 1) s ++ replicate (codePlaces - (i + 1)) 0
-    one-more =
-        let k : codePlaces - i ≡ suc (codePlaces - (i + 1)) = omega arith in
-        let rest : List ℕ = replicate (codePlaces - (i + 1)) 0 in
-        let more : take (i + 1) s ≡ take i s ++ (getD s i 0 ∷ []) = rw (add-one, take-suc s i 0) in
-        ap (λ l. set l i (getD s i 0)) (c .holds ∙ ap (λ n. take i s ++ replicate n 0) k)
-        ∙ set-at (take i s) 0 rest (getD s i 0) i (length-take-le i s (omega arith))
-        ∙ sym (ap (λ l. l ++ rest) more ∙ append-snoc (take i s) (getD s i 0) rest)
+      all : allOf digit s ≡ true
+      all = ap (allOf digit) (sym (ap (λ (p : List ℕ × List ℕ). p .0) (q .front) ∙ taken)) ∙ run-only codePlaces s .all
 
-    -- the byte is a digit: one more
-    pub begun-more : not t ≡ false → CodeBegun s (set ds i (getD s i 0)) (i + 1)
-    begun-more y = record {
-      within = omega arith;
-      holds = one-more;
-      passed = passed-more (c .passed) 0 h t is-used y;
-    }
+      empty : (t : List ℕ) → length t ≡ 0 → record { digits = t ++ replicate (codePlaces - length t) 0; len = length t } ≡ noCode
+      empty [] n = refl
+      empty (b ∷ t) n = absurd (omega arith)
 
-    -- a byte that is no digit
-    pub begun-fails : not t ≡ true → allOf digit s ≡ false
-    begun-fails y = sym (passed-fails (c .passed) 0 h t is-used y ∙ all-used s)
+      go : (n : ℕ) → length s ≡ n → kept ≡ codeOf s
+      go zero n = empty s n ∙ sym (code-of s false (below 1 (length s) codePlaces (allOf digit s) (omega arith)))
+      go (suc m) n = sym (code-of s true (within 1 (length s) codePlaces (allOf digit s) (omega arith) (omega (arith, q .fits)) ∙ all))
 
-  -- no byte is left
-  pub begun-done : length s ≤ i → 1 ≤ length s → record { digits = ds; len = length s } ≡ codeOf s
-  begun-done h l =
-      let k : i ≡ length s = omega (arith, c .within) in
-      let all = sym (passed-done (c .passed) h ∙ all-used s) in
-      let here : ds ≡ s ++ replicate (codePlaces - length s) 0 = c .holds ∙ ap (λ n. take n s ++ replicate (codePlaces - n) 0) k ∙ ap (λ l. l ++ replicate (codePlaces - length s) 0) (take-length s) in
-      ap (λ d. record { digits = d; len = length s }) here ∙ sym (code-of s true (within 1 (length s) codePlaces (allOf digit s) l few ∙ all))
-
--- bytes that are no code
-module _ (s : List ℕ) (none : Code) (e : none ≡ noCode) where
-  -- no bytes
-  pub no-code-few : length s < 1 → none ≡ codeOf s
-  no-code-few h = e ∙ sym (code-of s false (below 1 (length s) codePlaces (allOf digit s) h))
-
-  -- too many
-  pub no-code-many : codePlaces < length s → none ≡ codeOf s
-  no-code-many h = e ∙ sym (code-of s false (above 1 (length s) codePlaces (allOf digit s) h))
-
-  -- one that is no digit
-  pub no-code-bad : allOf digit s ≡ false → none ≡ codeOf s
-  no-code-bad d = e ∙ sym (code-of s false (ap (λ t. (leb 1 (length s) && leb (length s) codePlaces) && t) d ∙ and-false (leb 1 (length s) && leb (length s) codePlaces)))
+  -- it does not: they are no code
+  pub held-part : (c .len ≡ length s → ⊥) → (none : Code) → none ≡ noCode → none ≡ codeOf s
+  held-part h none e = e ∙ sym (code-of s false (sym (fails (spells s) no)))
+    where
+      no : spells s ≡ true → ⊥
+      no t =
+          let k = both (leb 1 (length s) && leb (length s) codePlaces) (allOf digit s) t in
+          let l = leb-true (length s) codePlaces (both (leb 1 (length s)) _ (k .0) .1) in
+          let r : take (c .len) s ≡ s = ap (λ (p : List ℕ × List ℕ). p .0) (sym (q .front) ∙ run-all codePlaces s l (k .1)) in
+          h (sym (length-take-le (c .len) s (q .in-t)) ∙ ap length r)
 
 -- ---- entries
 

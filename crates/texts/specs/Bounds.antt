@@ -13,6 +13,14 @@ mostDeps = 15
 abbrev pub codePlaces : ℕ
 codePlaces = 8
 
+-- "opening six digits", "`number=` six digits", "`amount=` six digits"
+abbrev pub numberWidth : ℕ
+numberWidth = 6
+
+-- "`shops=` two digits", "`deps=` two digits"
+abbrev pub countWidth : ℕ
+countWidth = 2
+
 -- "Opening credit 0 to 999,999. Amounts and slip numbers 1 to 999,999."
 abbrev pub most : ℕ
 most = 999999
@@ -23,3 +31,7 @@ registerRoom = 358
 
 abbrev pub slipRoom : ℕ
 slipRoom = 366
+
+-- "fourteen eight-byte names with lengths"
+abbrev pub namePlaces : ℕ
+namePlaces = 8

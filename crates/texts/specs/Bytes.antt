@@ -15,6 +15,13 @@ bytesFrom s (suc k) i = code (charAt s i) ∷ bytesFrom s k (suc i)
 abbrev pub bytes : String → List ℕ
 bytes s = bytesFrom s (len s) 0
 
+-- "each closed by byte 10", and what stands between a code and its number.
+abbrev pub lineEnd : ℕ
+lineEnd = 10
+
+abbrev pub colon : ℕ
+colon = 58
+
 -- "compared byte by byte, length included"
 unfoldable pub sameBytes : List ℕ → List ℕ → Bool
 sameBytes [] [] = true

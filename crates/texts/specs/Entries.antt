@@ -4,6 +4,7 @@ use mathlib.Core.List.{List}
 use Prim.Native.Nat.{ℕ}
 use lib.Dec.{eqb}
 use Rattle.texts.specs.Bounds.{mostShops}
+use Rattle.texts.specs.Bytes.{colon}
 use Rattle.texts.specs.Layout.{Layout, _then_, of, key, group}
 use Rattle.texts.specs.Code.{noCode, isCode, code, sameCode}
 use Rattle.texts.specs.Lines.{six}
@@ -30,7 +31,7 @@ partsEntry p = record { code = p .0; number = p .1 }
 
 -- KEY=CODE:NUMBER
 abbrev pub entryLine : List ℕ → Layout Entry
-entryLine name = of entryParts partsEntry (key name (code 58) then six)
+entryLine name = of entryParts partsEntry (key name (code colon) then six)
 
 -- So many of them, in a list that has a place for every shop, be they shops or dependencies.
 abbrev pub entryLines : List ℕ → ℕ → Layout (List Entry)

@@ -1,4 +1,4 @@
--- What the crate's private functions promise one another, in the terms of a layout. No public promise rests on a word of it.
+-- What private functions promise one another, here and in the desk (`Room`, `Wrote`). No public promise rests on a word of it.
 use mathlib.Core.Path.{_≡_}
 use mathlib.Core.Bool.{Bool, true, false}
 use mathlib.Core.Option.{none, some}

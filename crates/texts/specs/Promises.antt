@@ -35,7 +35,7 @@ SlipReadOrder = (text : List ℕ) → numbersOf (readRows text) ≡ 1 ∷ []
 
 -- ---- codes: "compared byte by byte, length included"
 
--- Two codes are the same where their bytes are, and then they are one value.
+-- Two codes are the same exactly where their bytes are.
 abbrev pub SameByBytes : Type 0
 SameByBytes = (a b : Code) → isCode a ≡ true → isCode b ≡ true → sameCode a b ≡ sameBytes (spelled a) (spelled b)
 

@@ -5,7 +5,7 @@ use mathlib.Core.List.{List, [], _∷_}
 use Prim.Native.Nat.{ℕ, zero, suc}
 use lib.ListN.{length, take, replicate}
 use lib.Dec.{ltb}
-use Rattle.texts.specs.Bounds.{mostShops, registerRoom}
+use Rattle.texts.specs.Bounds.{mostShops, countWidth, registerRoom}
 use Rattle.texts.specs.Bytes.{bytes, found, orZeros}
 use Rattle.texts.specs.Layout.{Layout, _⟫_, _then_, of, whole}
 use Rattle.texts.specs.Code.{noCode, sameCode}
@@ -27,7 +27,7 @@ noRegister = record { count = 0; shops = replicate mostShops noEntry; own = noCo
 -- ---- the lines
 
 abbrev pub shopsLine : Layout ℕ
-shopsLine = numberLine (bytes "shops=") 2 1 mostShops
+shopsLine = numberLine (bytes "shops=") countWidth 1 mostShops
 
 abbrev pub shopLine : Layout Entry
 shopLine = entryLine (bytes "shop=")
@@ -83,12 +83,12 @@ listed r c = among (shopsOf r) c
 
 -- ---- answers
 
-abbrev pub ownRows : Register → List Row
-ownRows r = (twin, twins (shopsOf r)) ∷ (shop, not (listed r (r .own))) ∷ []
+abbrev pub shopsRows : Register → List Row
+shopsRows r = (twin, twins (shopsOf r)) ∷ (shop, not (listed r (r .own))) ∷ []
 
 -- "Register: 1, 12, 2."
 abbrev pub registerRows : Bool → Register → List Row
-registerRows fits r = (form, not fits) ∷ ownRows r
+registerRows fits r = (form, not fits) ∷ shopsRows r
 
 -- The answer to a register as a value; 0: it is a legal one.
 unfoldable pub registerAnswer : Register → ℕ

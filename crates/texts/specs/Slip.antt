@@ -6,7 +6,7 @@ use mathlib.Core.List.{List, [], _∷_}
 use Prim.Native.Nat.{ℕ}
 use lib.ListN.{length, take, replicate}
 use lib.Dec.{ltb}
-use Rattle.texts.specs.Bounds.{mostShops, mostDeps, slipRoom}
+use Rattle.texts.specs.Bounds.{mostShops, mostDeps, countWidth, slipRoom}
 use Rattle.texts.specs.Bytes.{bytes, found, orZeros}
 use Rattle.texts.specs.Layout.{Layout, _⟫_, _then_, of, key, whole}
 use Rattle.texts.specs.Code.{noCode}
@@ -40,7 +40,7 @@ abbrev pub amountLine : Layout ℕ
 amountLine = key (bytes "amount=") six
 
 abbrev pub depsLine : Layout ℕ
-depsLine = numberLine (bytes "deps=") 2 0 mostDeps
+depsLine = numberLine (bytes "deps=") countWidth 0 mostDeps
 
 abbrev pub depLine : Layout Entry
 depLine = entryLine (bytes "dep=")

@@ -30,13 +30,18 @@ pub const TWIN: u8 = 12;
 
 pub const STATE: u8 = 13;
 
+// How many answers there are, and the places that a name has.
+const ANSWERS: usize = 14;
+
+pub const NAME_PLACES: usize = 8;
+
 // The name of an answer: `len` bytes, zeros after them.
 pub struct Name {
-    pub bytes: [u8; 8],
+    pub bytes: [u8; NAME_PLACES],
     pub len: usize,
 }
 
-const NAMES: [Name; 14] = [
+const NAMES: [Name; ANSWERS] = [
     Name {
         bytes: *b"ok\0\0\0\0\0\0",
         len: 2,
@@ -100,11 +105,11 @@ pub fn why(answer: u8) -> Name
     ensures { λ r. ⌜ r ≡ nameOf answer ⌝ }
 {
     let i = answer as usize;
-    if i < 14 {
+    if i < ANSWERS {
         return NAMES[i];
     }
     Name {
-        bytes: [0u8; 8],
+        bytes: [0u8; NAME_PLACES],
         len: 0,
     }
 }

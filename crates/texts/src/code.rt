@@ -4,7 +4,7 @@ ghost use mathlib.Core.Path.{_≡_};
 ghost use lib.Dec.{eqb};
 ghost use Rattle.texts.specs.Leaf.{digit};
 ghost use Rattle.texts.specs.Code.{noCode, isCode, sameCode, codeOf};
-ghost use Rattle.texts.specs.Inside.{passes};
+ghost use Rattle.texts.specs.Inside.{Held, passes};
 
 // `len` digits as they were written, zeros in the places that are not used.
 pub struct Code {
@@ -32,6 +32,26 @@ fn digit_passes(b: u8, used: bool) -> bool
     b == 0
 }
 
+// The digits at the front of t, at most eight of them.
+pub(crate) fn hold(t: &[u8]) -> Code
+    ensures { λ r. ⌜ Held (now (t .entry)) r ⌝ }
+{
+    let mut digits = [0u8; CODE_DIGITS];
+    let mut i = 0;
+    while i < CODE_DIGITS {
+        if t.len() <= i {
+            return Code { digits, len: i };
+        }
+        let b = t[i];
+        if !is_digit(b) {
+            return Code { digits, len: i };
+        }
+        digits[i] = b;
+        i += 1;
+    }
+    Code { digits, len: i }
+}
+
 impl Code {
     // The code of zeros, which is no shop's.
     pub fn none() -> Self
@@ -47,25 +67,11 @@ impl Code {
     pub fn from_bytes(s: &[u8]) -> Self
         ensures { λ r. ⌜ r ≡ codeOf (now (s .entry)) ⌝ }
     {
-        let none = Code::none();
-        let n = s.len();
-        if n < 1 {
-            return none;
+        let code = hold(s);
+        if code.len == s.len() {
+            return code;
         }
-        if CODE_DIGITS < n {
-            return none;
-        }
-        let mut digits = [0u8; CODE_DIGITS];
-        let mut i = 0;
-        while i < n {
-            let b = s[i];
-            if !is_digit(b) {
-                return none;
-            }
-            digits[i] = b;
-            i += 1;
-        }
-        Code { digits, len: n }
+        Code::none()
     }
 
     // Are the two the same, byte by byte and in length.

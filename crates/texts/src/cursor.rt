@@ -1,16 +1,17 @@
 // A place in a text, by value. The readers walk down a text with it, and each hands on the next place.
-use crate::bounds::CODE_DIGITS;
 use crate::code::Code;
+use crate::code::hold;
 use crate::code::is_digit;
 ghost use mathlib.Core.Path.{_≡_};
 ghost use mathlib.Core.Bool.{true, _&&_};
 ghost use Prim.Native.Nat.{_+_, _≤_, _<_, _^_};
-ghost use lib.Dec.{eqb};
-ghost use lib.ListN.{length};
+ghost use lib.Dec.{eqb, leb, ltb};
+ghost use lib.ListN.{length, getD};
+ghost use Rattle.texts.specs.Bounds.{numberWidth};
 ghost use Rattle.texts.specs.Layout.{word};
 ghost use Rattle.texts.specs.Leaf.{number};
 ghost use Rattle.texts.specs.Code.{code};
-ghost use Rattle.texts.specs.Inside.{Reads, Common, Counted, Held};
+ghost use Rattle.texts.specs.Inside.{Reads, Common, Counted};
 
 // Once a reader has stopped, `ok` is false and `at` is where it stopped.
 pub(crate) struct Cursor {
@@ -55,7 +56,7 @@ fn common(t: &[u8], w: &[u8]) -> usize
 
 // Ten to the power of a width.
 fn power(width: usize) -> u32
-    requires { ⌜ width ≤ 6 ⌝ }
+    requires { ⌜ width ≤ numberWidth ⌝ }
     ensures { λ r. ⌜ r ≡ 10 ^ width ⌝ }
 {
     let mut unit: u32 = 1;
@@ -70,7 +71,7 @@ fn power(width: usize) -> u32
 // The digits at the front of t, at most `width` of them. It stops at a digit with which the number would pass `upper`, whatever
 // digits follow.
 fn spell(t: &[u8], width: usize, upper: u32) -> Spelt
-    requires { ⌜ (width ≤ 6) × (upper < 10 ^ width) ⌝ }
+    requires { ⌜ (width ≤ numberWidth) × (upper < 10 ^ width) ⌝ }
     ensures { λ r. ⌜ Counted (now (t .entry)) width upper (r .count) (r .value) ⌝ }
 {
     let mut value: u32 = 0;
@@ -96,24 +97,17 @@ fn spell(t: &[u8], width: usize, upper: u32) -> Spelt
     Spelt { count: i, value }
 }
 
-// The digits at the front of t, at most eight of them.
-fn hold(t: &[u8]) -> Code
-    ensures { λ r. ⌜ Held (now (t .entry)) r ⌝ }
+// Are there n digits, one at least, and the closing byte after them.
+fn is_closed(t: &[u8], n: usize, closing: u8) -> bool
+    ensures { λ r. ⌜ r ≡ leb 1 n && (ltb n (length (now (t .entry))) && eqb (getD (now (t .entry)) n 0) closing) ⌝ }
 {
-    let mut digits = [0u8; CODE_DIGITS];
-    let mut i = 0;
-    while i < CODE_DIGITS {
-        if t.len() <= i {
-            return Code { digits, len: i };
-        }
-        let b = t[i];
-        if !is_digit(b) {
-            return Code { digits, len: i };
-        }
-        digits[i] = b;
-        i += 1;
+    if n < 1 {
+        return false;
     }
-    Code { digits, len: i }
+    if t.len() <= n {
+        return false;
+    }
+    t[n] == closing
 }
 
 impl Cursor {
@@ -134,54 +128,59 @@ impl Cursor {
         false
     }
 
+    // Can it go on: it has not stopped, and its place is in the text.
+    fn goes(self, s: &[u8]) -> bool
+        ensures { λ r. ⌜ r ≡ self .ok && leb (self .at) (length (now (s .entry))) ⌝ }
+    {
+        if self.ok {
+            return self.at <= s.len();
+        }
+        false
+    }
+
     // Past the bytes w.
     pub(crate) fn word(self, s: &[u8], w: &[u8]) -> Self
         ensures { λ r. ⌜ Reads (word (now (w .entry))) (now (s .entry)) self tt r ⌝ }
     {
         let at = self.at;
-        if self.ok {
-            if at <= s.len() {
-                let n = common(&s[at..], w);
-                return Cursor {
-                    at: at + n,
-                    ok: n == w.len(),
-                };
-            }
+        if !self.goes(s) {
+            return Cursor { at, ok: false };
         }
-        Cursor { at, ok: false }
+        let n = common(&s[at..], w);
+        Cursor {
+            at: at + n,
+            ok: n == w.len(),
+        }
     }
 
     // A number of a width, from `least` to `upper`.
     pub(crate) fn number(self, s: &[u8], width: usize, least: u32, upper: u32) -> NumberAt
-        requires { ⌜ (width ≤ 6) × (upper < 10 ^ width) ⌝ }
+        requires { ⌜ (width ≤ numberWidth) × (upper < 10 ^ width) ⌝ }
         ensures { λ r. ⌜ (r .value ≤ upper) × Reads (number width least upper) (now (s .entry)) self (r .value) (r .next) ⌝ }
     {
         let at = self.at;
-        if self.ok {
-            if at <= s.len() {
-                let spelt = spell(&s[at..], width, upper);
-                let count = spelt.count;
-                let value = spelt.value;
-                if count == width {
-                    let next = Cursor {
-                        at: at + count,
-                        ok: least <= value,
-                    };
-                    return NumberAt { value, next };
-                }
-                let stop = Cursor {
-                    at: at + count,
-                    ok: false,
-                };
-                return NumberAt {
-                    value: 0,
-                    next: stop,
-                };
-            }
+        if !self.goes(s) {
+            return NumberAt {
+                value: 0,
+                next: Cursor { at, ok: false },
+            };
+        }
+        let spelt = spell(&s[at..], width, upper);
+        let count = spelt.count;
+        let value = spelt.value;
+        if count == width {
+            let next = Cursor {
+                at: at + count,
+                ok: least <= value,
+            };
+            return NumberAt { value, next };
         }
         NumberAt {
             value: 0,
-            next: Cursor { at, ok: false },
+            next: Cursor {
+                at: at + count,
+                ok: false,
+            },
         }
     }
 
@@ -191,35 +190,28 @@ impl Cursor {
     {
         let at = self.at;
         let none = Code::none();
-        if self.ok {
-            if at <= s.len() {
-                let t = &s[at..];
-                let code = hold(t);
-                let n = code.len;
-                let stop = Cursor {
-                    at: at + n,
-                    ok: false,
-                };
-                if 0 < n {
-                    if n < t.len() {
-                        if t[n] == closing {
-                            let next = Cursor {
-                                at: at + n + 1,
-                                ok: true,
-                            };
-                            return CodeAt { code, next };
-                        }
-                    }
-                }
-                return CodeAt {
-                    code: none,
-                    next: stop,
-                };
-            }
+        if !self.goes(s) {
+            return CodeAt {
+                code: none,
+                next: Cursor { at, ok: false },
+            };
+        }
+        let t = &s[at..];
+        let code = hold(t);
+        let n = code.len;
+        if is_closed(t, n, closing) {
+            let next = Cursor {
+                at: at + n + 1,
+                ok: true,
+            };
+            return CodeAt { code, next };
         }
         CodeAt {
             code: none,
-            next: Cursor { at, ok: false },
+            next: Cursor {
+                at: at + n,
+                ok: false,
+            },
         }
     }
 }

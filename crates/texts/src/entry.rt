@@ -1,5 +1,6 @@
 // An entry: a code with a number, as the lines `shop=CODE:OPENING` and `dep=CODE:NUMBER` carry it.
 use crate::bounds::MOST;
+use crate::bounds::NUMBER_WIDTH;
 use crate::bounds::SHOPS;
 use crate::code::Code;
 use crate::cursor::Cursor;
@@ -85,7 +86,7 @@ fn entry_at(s: &[u8], c: Cursor, name: &[u8]) -> EntryAt
 {
     let found = code_line(s, c, name, b':');
     let code = found.code;
-    let six = closed_number(s, found.next, 6, 0, MOST);
+    let six = closed_number(s, found.next, NUMBER_WIDTH, 0, MOST);
     let next = six.next;
     let entry = Entry {
         code,
@@ -122,7 +123,7 @@ fn put_entry(buf: &mut [u8], at: usize, name: &[u8], entry: Entry) -> usize
 {
     let code = entry.code;
     let next = put_code_line(buf, at, name, code, b':');
-    put_closed_number(buf, next, entry.number, 6)
+    put_closed_number(buf, next, entry.number, NUMBER_WIDTH)
 }
 
 // The lines of n entries under a key.

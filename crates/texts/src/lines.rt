@@ -3,6 +3,7 @@ use crate::cursor::CodeAt;
 use crate::cursor::Cursor;
 use crate::cursor::NumberAt;
 ghost use Prim.Native.Nat.{_≤_, _<_, _^_};
+ghost use Rattle.texts.specs.Bounds.{numberWidth};
 ghost use Rattle.texts.specs.Layout.{key};
 ghost use Rattle.texts.specs.Code.{code};
 ghost use Rattle.texts.specs.Lines.{closed, numberLine};
@@ -18,7 +19,7 @@ pub(crate) fn code_line(s: &[u8], c: Cursor, name: &[u8], closing: u8) -> CodeAt
 
 // A number and the end of its line.
 pub(crate) fn closed_number(s: &[u8], c: Cursor, width: usize, least: u32, upper: u32) -> NumberAt
-    requires { ⌜ (width ≤ 6) × (upper < 10 ^ width) ⌝ }
+    requires { ⌜ (width ≤ numberWidth) × (upper < 10 ^ width) ⌝ }
     ensures { λ r. ⌜ (r .value ≤ upper) × Reads (closed width least upper) (now (s .entry)) c (r .value) (r .next) ⌝ }
 {
     let found = c.number(s, width, least, upper);
@@ -39,7 +40,7 @@ pub(crate) fn number_line(
     least: u32,
     upper: u32,
 ) -> NumberAt
-    requires { ⌜ (width ≤ 6) × (upper < 10 ^ width) ⌝ }
+    requires { ⌜ (width ≤ numberWidth) × (upper < 10 ^ width) ⌝ }
     ensures { λ r. ⌜ (r .value ≤ upper) × Reads (numberLine (now (name .entry)) width least upper) (now (s .entry)) c (r .value) (r .next) ⌝ }
 {
     let named = c.word(s, name);

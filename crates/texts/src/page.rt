@@ -22,7 +22,7 @@ pub fn put_word(page: &mut [u8], at: usize, word: &[u8]) -> usize
 }
 
 // A line: a key, a number of a width with leading zeros, and a byte 10; answers the place after it.
-pub fn put_number(page: &mut [u8], at: usize, key: &[u8], value: u32, width: usize) -> usize
+pub fn put_number_line(page: &mut [u8], at: usize, key: &[u8], value: u32, width: usize) -> usize
     ensures place { λ r. ⌜ r ≡ placeAfter (now (page .entry)) at (now (key .entry) ++ (digits width value ++ bytes "\n")) ⌝ }
     ensures bytes { λ r. ⌜ now (page .exit) ≡ putAt (now (page .entry)) at (now (key .entry) ++ (digits width value ++ bytes "\n")) ⌝ }
 {

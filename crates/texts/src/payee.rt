@@ -69,7 +69,7 @@ fn shop_spot(text: &[u8], code: Code) -> Spot
     none
 }
 
-// The payee's code, as a part of the one text or of the other.
+// The payee's code, as a part of the one text or of the other; empty at the slip's start where the slip is refused.
 pub fn payee_part<'a>(register: &'a [u8], slip: &'a [u8]) -> &'a [u8]
     ensures bytes { λ r. ⌜ now r ≡ shown (payeePart (now (register .entry)) (now (slip .entry))) (now (register .entry)) (now (slip .entry)) ⌝ }
     ensures place { λ r. ⌜ ptr r ≡ placed (payeePart (now (register .entry)) (now (slip .entry))) (ptr (register .entry)) (ptr (slip .entry)) ⌝ }

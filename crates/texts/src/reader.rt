@@ -1,4 +1,4 @@
-// The reader: it holds its text and a place in it, and walks down line by line. Each step is a thin one over a function of the text and the place.
+// The reader: it holds its text and a place in it. A step reads one line and answers the place after it, to which the caller moves the reader.
 use crate::cursor::CodeAt;
 use crate::cursor::Cursor;
 use crate::cursor::NumberAt;
@@ -7,7 +7,7 @@ use crate::entry::entries_at;
 use crate::lines::code_line;
 use crate::lines::number_line;
 ghost use Prim.Native.Nat.{_≤_, _<_, _^_};
-ghost use Rattle.texts.specs.Bounds.{mostShops};
+ghost use Rattle.texts.specs.Bounds.{mostShops, numberWidth};
 ghost use Rattle.texts.specs.Layout.{key};
 ghost use Rattle.texts.specs.Code.{code};
 ghost use Rattle.texts.specs.Lines.{numberLine};
@@ -30,7 +30,7 @@ impl<'a> Reader<'a> {
 
     // A line of a number.
     pub(crate) fn number(self, name: &[u8], width: usize, least: u32, upper: u32) -> NumberAt
-        requires { ⌜ (width ≤ 6) × (upper < 10 ^ width) ⌝ }
+        requires { ⌜ (width ≤ numberWidth) × (upper < 10 ^ width) ⌝ }
         ensures { λ r. ⌜ (r .value ≤ upper) × Reads (numberLine (now (name .entry)) width least upper) (now (self .entry .text)) (self .entry .at) (r .value) (r .next) ⌝ }
     {
         number_line(self.text, self.at, name, width, least, upper)

@@ -4,6 +4,7 @@ use crate::answers::OK;
 use crate::answers::ROOM;
 use crate::answers::SHOP;
 use crate::answers::TWIN;
+use crate::bounds::COUNT_WIDTH;
 use crate::bounds::REGISTER_ROOM;
 use crate::bounds::SHOPS;
 use crate::code::Code;
@@ -20,11 +21,11 @@ ghost use mathlib.Core.Bool.{true};
 ghost use Prim.Native.Nat.{_+_, _≤_};
 ghost use lib.ListN.{length, take, drop};
 ghost use Rattle.texts.specs.Bounds.{mostShops};
-ghost use Rattle.texts.specs.Register.{noRegister, registerLayout, place, twins, shopsOf, position, listed, ownRows, registerAnswer, registerRead, registerWritten, registerBuffer};
+ghost use Rattle.texts.specs.Register.{noRegister, registerLayout, place, twins, shopsOf, position, listed, shopsRows, registerAnswer, registerRead, registerWritten, registerBuffer};
 ghost use Rattle.texts.specs.Answers.{answerOf};
 ghost use Rattle.texts.specs.Inside.{Reads, Room, Wrote};
 
-// `count` shops, each with its opening credit, zeros in the places that are not used.
+// `count` shops; the number of each is its opening credit; zeros in the places that are not used.
 pub struct Register {
     pub count: usize,
     pub shops: [Entry; SHOPS],
@@ -139,8 +140,8 @@ impl Register {
     }
 
     // Two equal codes, or an own code that is not listed: 12, 2 or 0.
-    fn own_answer(self) -> u8
-        ensures { λ r. ⌜ r ≡ answerOf (ownRows self) ⌝ }
+    fn shops_answer(self) -> u8
+        ensures { λ r. ⌜ r ≡ answerOf (shopsRows self) ⌝ }
     {
         let shops = self.shops;
         let own = self.own;
@@ -159,7 +160,7 @@ impl Register {
         ensures { λ r. ⌜ r ≡ registerAnswer self ⌝ }
     {
         if self.fits() {
-            return self.own_answer();
+            return self.shops_answer();
         }
         FORM
     }
@@ -172,7 +173,7 @@ fn register_at(s: &[u8], c: Cursor) -> RegisterAt
     ensures { λ r. ⌜ Reads registerLayout (now (s .entry)) c (r .register) (r .next) ⌝ }
 {
     let mut reader = Reader { text: s, at: c };
-    let head = reader.number(b"shops=", 2, 1, SHOPS as u32);
+    let head = reader.number(b"shops=", COUNT_WIDTH, 1, SHOPS as u32);
     reader.at = head.next;
     let count = head.value as usize;
     let list = reader.entries(b"shop=", count);
@@ -198,7 +199,7 @@ pub fn read_register(text: &[u8]) -> RegisterRead
     let register = found.register;
     let next = found.next;
     if next.ends(text) {
-        let answer = register.own_answer();
+        let answer = register.shops_answer();
         if answer == OK {
             return RegisterRead { answer, register };
         }
@@ -223,7 +224,7 @@ fn put_register(buf: &mut [u8], r: Register) -> usize
     let count = r.count;
     let shops = r.shops;
     let own = r.own;
-    let head = put_number_line(buf, 0, b"shops=", count as u32, 2);
+    let head = put_number_line(buf, 0, b"shops=", count as u32, COUNT_WIDTH);
     let list = put_entries(buf, head, b"shop=", shops, count);
     put_code_line(buf, list, b"own=", own, b'\n')
 }

@@ -2,8 +2,10 @@
 use crate::answers::FORM;
 use crate::answers::OK;
 use crate::answers::ROOM;
-use crate::bounds::DEPS;
+use crate::bounds::COUNT_WIDTH;
 use crate::bounds::MOST;
+use crate::bounds::MOST_DEPS;
+use crate::bounds::NUMBER_WIDTH;
 use crate::bounds::SHOPS;
 use crate::bounds::SLIP_ROOM;
 use crate::code::Code;
@@ -74,7 +76,7 @@ impl Slip {
         if MOST < self.amount {
             return false;
         }
-        if DEPS < n {
+        if MOST_DEPS < n {
             return false;
         }
         if payer.fits() {
@@ -95,13 +97,13 @@ fn slip_at(s: &[u8], c: Cursor) -> SlipAt
     let mut reader = Reader { text: s, at: c };
     let paying = reader.code(b"payer=", b'\n');
     reader.at = paying.next;
-    let numbered = reader.number(b"number=", 6, 0, MOST);
+    let numbered = reader.number(b"number=", NUMBER_WIDTH, 0, MOST);
     reader.at = numbered.next;
     let paid = reader.code(b"payee=", b'\n');
     reader.at = paid.next;
-    let moved = reader.number(b"amount=", 6, 0, MOST);
+    let moved = reader.number(b"amount=", NUMBER_WIDTH, 0, MOST);
     reader.at = moved.next;
-    let head = reader.number(b"deps=", 2, 0, DEPS as u32);
+    let head = reader.number(b"deps=", COUNT_WIDTH, 0, MOST_DEPS as u32);
     reader.at = head.next;
     let count = head.value as usize;
     let list = reader.entries(b"dep=", count);
@@ -148,10 +150,10 @@ fn put_slip(buf: &mut [u8], s: Slip) -> usize
     let count = s.count;
     let deps = s.deps;
     let paying = put_code_line(buf, 0, b"payer=", payer, b'\n');
-    let numbered = put_number_line(buf, paying, b"number=", s.number, 6);
+    let numbered = put_number_line(buf, paying, b"number=", s.number, NUMBER_WIDTH);
     let paid = put_code_line(buf, numbered, b"payee=", payee, b'\n');
-    let moved = put_number_line(buf, paid, b"amount=", s.amount, 6);
-    let head = put_number_line(buf, moved, b"deps=", count as u32, 2);
+    let moved = put_number_line(buf, paid, b"amount=", s.amount, NUMBER_WIDTH);
+    let head = put_number_line(buf, moved, b"deps=", count as u32, COUNT_WIDTH);
     put_entries(buf, head, b"dep=", deps, count)
 }
 

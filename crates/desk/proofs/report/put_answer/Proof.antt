@@ -11,11 +11,11 @@ use Rattle.desk.proofs.report.put_answer.Tie as tie
 why-requires : tie.Need-why-requires
 why-requires c κs = search needs
 
-slice-aggregate-put-number : tie.Need-slice-aggregate-put-number
-slice-aggregate-put-number c = search needs
+slice-aggregate-put-number-line : tie.Need-slice-aggregate-put-number-line
+slice-aggregate-put-number-line c = search needs
 
-put-number-requires : tie.Need-put-number-requires
-put-number-requires c κs = search needs
+put-number-line-requires : tie.Need-put-number-line-requires
+put-number-line-requires c κs = search needs
 
 slice-aggregate-put-line : tie.Need-slice-aggregate-put-line
 slice-aggregate-put-line c = search needs
@@ -30,7 +30,7 @@ put-line-requires : tie.Need-put-line-requires
 put-line-requires c κs =
     let start = c .before .before .before .before .before .before .before .before .before .before .before in
     let answer = start .args .answer in
-    let first = put-first (numbered (bytes "answer=") 2 answer) _ (start .pre) (c .before .before .before .before .before .put-number .ensures) in
+    let first = put-first (numbered (bytes "answer=") 2 answer) _ (start .pre) (c .before .before .before .before .before .put-number-line .ensures) in
     named-room _ answer (c .before .before .before .before .before .before .before .before .before .why .ensures) (room-back (start .pre) first)
 
 same-length : tie.Need-same-length
@@ -40,7 +40,7 @@ returns : tie.Need-returns
 returns c =
     let start = c .before .before .before .before .before .before .before .before .before .before .before .before .before .before in
     let answer = start .args .answer in
-    let first = put-first (numbered (bytes "answer=") 2 answer) _ (start .pre) (c .before .before .before .before .before .before .before .before .put-number .ensures) in
+    let first = put-first (numbered (bytes "answer=") 2 answer) _ (start .pre) (c .before .before .before .before .before .before .before .before .put-number-line .ensures) in
     wrote-then first (named-wrote _ answer (c .before .before .before .before .before .before .before .before .before .before .before .before .why .ensures) (c .before .before .put-line .ensures))
 
 pub put-answer-spec : {M : Type 1} → statement M
@@ -48,8 +48,8 @@ put-answer-spec =
     tie.close
     (tie.spec
     why-requires
-    slice-aggregate-put-number
-    put-number-requires
+    slice-aggregate-put-number-line
+    put-number-line-requires
     slice-aggregate-put-line
     array-share-prefix-bytes
     slice-aggregate-put-line-2

@@ -1,10 +1,9 @@
 -- After i turns the first i shops have their openings and the others are zeros.
 use Prim.Native.Nat.{_-_}
-use native.Mathlib.Omega.{arith}
 use borrow.Author.Needs.{needs}
 use Rattle.replica.specs.Record.{noShop}
 use Rattle.replica.specs.Open.{firstDay}
-use Rattle.replica.proofs.Checked.{Filled, filled-none, filled-all, openings-more}
+use Rattle.replica.proofs.Checked.{Filled, filled-all, openings-none, openings-more}
 use Rattle.replica.proofs.open.openings.Statement.{statement}
 use Rattle.replica.proofs.open.openings.Tie as tie
 
@@ -14,8 +13,11 @@ Inv-loop listed shops₀ i₀ shops i = Filled firstDay noShop 16 16 listed shop
 abbrev μ-loop : tie.MeasureT-loop
 μ-loop listed shops₀ i₀ shops i = 16 - i
 
+none-requires : tie.Need-none-requires Inv-loop μ-loop
+none-requires c κs = search needs
+
 loop-holds : tie.Need-loop-holds Inv-loop μ-loop
-loop-holds c = filled-none firstDay noShop 16 16 _ (omega arith) (search needs)
+loop-holds c = search (openings-none, needs)
 
 mul-shops : tie.Need-mul-shops Inv-loop μ-loop
 mul-shops c = search needs
@@ -47,6 +49,7 @@ openings-spec =
     (tie.spec
     Inv-loop
     μ-loop
+    none-requires
     loop-holds
     mul-shops
     element-copy-out-shops

@@ -16,8 +16,8 @@ register-at-requires c κs = search needs
 ends-requires : tie.Need-ends-requires
 ends-requires c κs = search needs
 
-own-answer-requires : tie.Need-own-answer-requires
-own-answer-requires c κs = search needs
+shops-answer-requires : tie.Need-shops-answer-requires
+shops-answer-requires c κs = search needs
 
 returns : tie.Need-returns
 returns c = search (register-there, needs)
@@ -36,7 +36,7 @@ read-register-spec =
     start-requires
     register-at-requires
     ends-requires
-    own-answer-requires
+    shops-answer-requires
     returns
     returns-2
     returns-3)

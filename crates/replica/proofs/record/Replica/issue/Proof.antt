@@ -52,6 +52,9 @@ write-slip-requires c κs = search needs
 unmark-requires : tie.Need-unmark-requires
 unmark-requires c κs = search needs
 
+did-requires : tie.Need-did-requires
+did-requires c κs = search needs
+
 same-length : tie.Need-same-length
 same-length c = search needs
 
@@ -76,5 +79,6 @@ issue-spec =
     slip-with-marks-requires
     write-slip-requires
     unmark-requires
+    did-requires
     same-length
     returns-4)

@@ -10,8 +10,11 @@ read-register-requires c κs = search needs
 fresh-requires : tie.Need-fresh-requires
 fresh-requires c κs = search needs
 
+did-requires : tie.Need-did-requires
+did-requires c κs = search needs
+
 returns : tie.Need-returns
-returns c = open-fine _ _ (c .before .before .before .read-register .ensures) (c .before .if1 .taken) _ (c .fresh .ensures)
+returns c = search (open-fine, needs)
 
 none-requires : tie.Need-none-requires
 none-requires c κs = search needs
@@ -31,6 +34,7 @@ open-spec =
     (tie.spec
     read-register-requires
     fresh-requires
+    did-requires
     returns
     none-requires
     refused-requires

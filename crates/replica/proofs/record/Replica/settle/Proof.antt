@@ -1,6 +1,5 @@
 -- Before each scan some slips have been applied and the rest is still to be settled; a scan finds the first ready slip or that there is none.
 use Prim.Native.Nat.{_-_}
-use mathlib.Core.Logic.{⊎-elim}
 use native.Mathlib.Omega.{arith}
 use borrow.Author.Needs.{needs}
 use Rattle.replica.specs.Settle.{waits}
@@ -47,6 +46,15 @@ mul-if1 c = search needs
 element-copy-out-if1 : tie.Need-element-copy-out-if1 Inv-scan μ-scan Inv-settle μ-settle
 element-copy-out-if1 c = search needs
 
+add-at : tie.Need-add-at Inv-scan μ-scan Inv-settle μ-settle
+add-at c = search needs
+
+scan-less : tie.Need-scan-less Inv-scan μ-scan Inv-settle μ-settle
+scan-less c = search needs
+
+scan-again : tie.Need-scan-again Inv-scan μ-scan Inv-settle μ-settle
+scan-again c = search (scanned-more, not-waiting, needs)
+
 mul-line : tie.Need-mul-line Inv-scan μ-scan Inv-settle μ-settle
 mul-line c = search needs
 
@@ -59,14 +67,14 @@ element-copy-out-slip c = search needs
 slip-ready-requires : tie.Need-slip-ready-requires Inv-scan μ-scan Inv-settle μ-settle
 slip-ready-requires c κs = search needs
 
-add-at : tie.Need-add-at Inv-scan μ-scan Inv-settle μ-settle
-add-at c = search needs
+add-at-2 : tie.Need-add-at-2 Inv-scan μ-scan Inv-settle μ-settle
+add-at-2 c = search needs
 
-scan-less : tie.Need-scan-less Inv-scan μ-scan Inv-settle μ-settle
-scan-less c = search needs
+scan-less-2 : tie.Need-scan-less-2 Inv-scan μ-scan Inv-settle μ-settle
+scan-less-2 c = search needs
 
-scan-again : tie.Need-scan-again Inv-scan μ-scan Inv-settle μ-settle
-scan-again c = ⊎-elim (λ w. search (scanned-more, first-decides, needs)) (λ w. search (scanned-more, not-waiting, needs)) (c .if1 .came)
+scan-again-2 : tie.Need-scan-again-2 Inv-scan μ-scan Inv-settle μ-settle
+scan-again-2 c = let looking : Looking = search in scanned-more _ _ _ (looking .scan .inv) (search needs) (search (first-decides, needs))
 
 mul-line-2 : tie.Need-mul-line-2 Inv-scan μ-scan Inv-settle μ-settle
 mul-line-2 c = search needs
@@ -116,6 +124,9 @@ settle-again c =
     let looking : Looking = search in
     going-more (settling .settle .inv) _ (looking .scan .at) (search (applied-is, needs)) (search needs) (looking .scan .inv) (search (first-decides, needs))
 
+did-requires : tie.Need-did-requires Inv-scan μ-scan Inv-settle μ-settle
+did-requires c κs = search needs
+
 same-length : tie.Need-same-length Inv-scan μ-scan Inv-settle μ-settle
 same-length c = search needs
 
@@ -135,13 +146,16 @@ settle-spec =
     scan-holds
     mul-if1
     element-copy-out-if1
+    add-at
+    scan-less
+    scan-again
     mul-line
     element-copy-out-line
     element-copy-out-slip
     slip-ready-requires
-    add-at
-    scan-less
-    scan-again
+    add-at-2
+    scan-less-2
+    scan-again-2
     mul-line-2
     element-copy-out-line-2
     element-copy-out-slip-2
@@ -154,5 +168,6 @@ settle-spec =
     add-done
     settle-less
     settle-again
+    did-requires
     same-length
     returns)

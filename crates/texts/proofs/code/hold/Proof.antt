@@ -6,8 +6,8 @@ use borrow.Author.Needs.{needs}
 use borrow.Author.Tests.{not-true, not-false}
 use Rattle.texts.specs.Bounds.{codePlaces}
 use Rattle.texts.proofs.Spelling.{Holding, holding-none, holding-more, holding-stops}
-use Rattle.texts.proofs.cursor.hold.Statement.{statement}
-use Rattle.texts.proofs.cursor.hold.Tie as tie
+use Rattle.texts.proofs.code.hold.Statement.{statement}
+use Rattle.texts.proofs.code.hold.Tie as tie
 
 abbrev Inv-loop : tie.InvT-loop
 Inv-loop t digits₀ i₀ digits i = Holding t digits i

@@ -2,8 +2,8 @@
 use borrow.Author.Needs.{needs}
 use native.Mathlib.Omega.{arith}
 use Rattle.texts.proofs.Paging.{wrote-put, no-room-line, room-line}
-use Rattle.texts.proofs.page.put_number.Statement.{statement}
-use Rattle.texts.proofs.page.put_number.Tie as tie
+use Rattle.texts.proofs.page.put_number_line.Statement.{statement}
+use Rattle.texts.proofs.page.put_number_line.Tie as tie
 
 returns : tie.Need-returns
 returns c =
@@ -34,7 +34,7 @@ same-length c = search needs
 returns-4 : tie.Need-returns-4
 returns-4 c = search (wrote-put, needs)
 
-pub put-number-spec : {M : Type 1} → statement M
-put-number-spec =
+pub put-number-line-spec : {M : Type 1} → statement M
+put-number-line-spec =
     tie.close
     (tie.spec returns returns-2 sub-if3 returns-3 put-number-line-requires same-length returns-4)
