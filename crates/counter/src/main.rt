@@ -1,4 +1,6 @@
 // Reads a register and slips from standard input, and prints what came of them.
+#![tactic(auto)]
+
 use desk::Desk;
 use desk::bounds::{PAGE, WINDOW};
 use libc::{STDIN_FILENO, STDOUT_FILENO};

@@ -16,7 +16,7 @@ use texts::answers::OK;
 
 // The replica; the chunk that is being read, its first bytes alone; whether a line begins here, whether the register was read, whether
 // it was refused; how many slip chunks there were.
-#[derive(Drop)]
+#[derive(Clone, Copy)]
 pub struct Desk {
     pub replica: Replica,
     pub bytes: [u8; KEPT],
@@ -28,7 +28,7 @@ pub struct Desk {
 }
 
 // The desk after some bytes, and how many bytes of the page are to be printed.
-#[derive(Drop)]
+#[derive(Clone, Copy)]
 pub struct Fed {
     pub desk: Desk,
     pub count: usize,

@@ -14,7 +14,7 @@ use texts::bounds::SHOPS;
 use texts::{Register, Slip};
 
 // Where the codes of a slip stand in the register: the payer's, the payee's, and those of the dependencies in use.
-#[derive(Drop)]
+#[derive(Clone, Copy)]
 pub(crate) struct Places {
     pub(crate) payer: usize,
     pub(crate) payee: usize,

@@ -15,7 +15,7 @@ use texts::bounds::{MOST, SHOPS, SLIP_ROOM};
 use texts::{Code, Entry, Register, Slip, write_slip};
 
 // The own shop as issuing asks about it: its numbers, how many of its slips wait, and the number that it issued last.
-#[derive(Drop)]
+#[derive(Clone, Copy)]
 pub(crate) struct Own {
     pub(crate) shop: Shop,
     pub(crate) waits: usize,

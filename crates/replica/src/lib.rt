@@ -1,4 +1,6 @@
 // The replica: the register, the shops' numbers, the lines of waiting slips, and the steps over them.
+#![tactic(auto)]
+
 mod balance;
 pub mod bounds;
 mod checks;

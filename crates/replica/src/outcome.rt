@@ -5,7 +5,7 @@ ghost use Rattle.replica.specs.Outcome.{refused, did};
 use crate::record::Replica;
 use texts::answers::OK;
 
-#[derive(Drop)]
+#[derive(Clone, Copy)]
 pub struct Outcome {
     pub answer: u8,
     pub balance: u32,

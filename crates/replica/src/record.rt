@@ -7,7 +7,7 @@ use texts::Register;
 use texts::bounds::SHOPS;
 
 // Per shop: the balance, the number taken in, the number applied, the mark.
-#[derive(Drop)]
+#[derive(Clone, Copy)]
 pub struct Shop {
     pub balance: u32,
     pub taken: u32,
@@ -17,7 +17,7 @@ pub struct Shop {
 
 // A waiting slip by position: the payer's position, the payee's position, the slip's number, the amount, and per shop the number
 // that must be applied there (0: none).
-#[derive(Drop)]
+#[derive(Clone, Copy)]
 pub struct Waiting {
     pub payer: usize,
     pub payee: usize,
@@ -27,14 +27,14 @@ pub struct Waiting {
 }
 
 // The slips that wait for one shop, in number order; zeros in the places that are not used.
-#[derive(Drop)]
+#[derive(Clone, Copy)]
 pub struct Line {
     pub count: usize,
     pub slips: [Waiting; WAITING],
 }
 
 // One replica. The number of shops and the own shop stand in the register.
-#[derive(Drop)]
+#[derive(Clone, Copy)]
 pub struct Replica {
     pub register: Register,
     pub issued: u32,

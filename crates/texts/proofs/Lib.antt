@@ -18,12 +18,6 @@ pub mod Putting
 pub mod Values
 pub mod Places
 pub mod Table
-pub mod Walking
-pub mod Passing
-pub mod ThinStep
-pub mod Lending
-pub mod ReaderLines
-pub mod TextWalk
 pub mod WritingTexts
 pub mod Promises
 pub mod Showing

@@ -36,7 +36,7 @@ const ANSWERS: usize = 14;
 pub const NAME_PLACES: usize = 8;
 
 // The name of an answer: `len` bytes, zeros after them.
-#[derive(Drop)]
+#[derive(Clone, Copy)]
 pub struct Name {
     pub bytes: [u8; NAME_PLACES],
     pub len: usize,

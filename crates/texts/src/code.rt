@@ -7,7 +7,7 @@ ghost use Rattle.texts.specs.Inside.{Held, passes};
 use crate::bounds::CODE_DIGITS;
 
 // `len` digits as they were written, zeros in the places that are not used.
-#[derive(Drop)]
+#[derive(Clone, Copy)]
 pub struct Code {
     pub digits: [u8; CODE_DIGITS],
     pub len: usize,

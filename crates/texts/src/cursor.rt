@@ -9,28 +9,28 @@ ghost use Rattle.texts.specs.Inside.{Reads, Common, Counted};
 use crate::code::{Code, hold, is_digit};
 
 // Once a reader has stopped, `ok` is false and `at` is where it stopped.
-#[derive(Drop)]
+#[derive(Clone, Copy)]
 pub(crate) struct Cursor {
     pub(crate) at: usize,
     pub(crate) ok: bool,
 }
 
 // A number that was read, and the place after it.
-#[derive(Drop)]
+#[derive(Clone, Copy)]
 pub(crate) struct NumberAt {
     pub(crate) value: u32,
     pub(crate) next: Cursor,
 }
 
 // A code that was read, and the place after it.
-#[derive(Drop)]
+#[derive(Clone, Copy)]
 pub(crate) struct CodeAt {
     pub(crate) code: Code,
     pub(crate) next: Cursor,
 }
 
 // Digits that were read, and the number that they make.
-#[derive(Drop)]
+#[derive(Clone, Copy)]
 pub(crate) struct Spelt {
     pub(crate) count: usize,
     pub(crate) value: u32,

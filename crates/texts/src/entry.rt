@@ -13,21 +13,21 @@ use crate::lines::{closed_number, code_line};
 use crate::pen::{put_closed_number, put_code_line};
 
 // A shop with its opening credit, or with the number of its slips that another slip depends on.
-#[derive(Drop)]
+#[derive(Clone, Copy)]
 pub struct Entry {
     pub code: Code,
     pub number: u32,
 }
 
 // An entry that was read, and the place after it.
-#[derive(Drop)]
+#[derive(Clone, Copy)]
 struct EntryAt {
     entry: Entry,
     next: Cursor,
 }
 
 // Entries that were read, and the place after them.
-#[derive(Drop)]
+#[derive(Clone, Copy)]
 pub(crate) struct EntriesAt {
     pub(crate) entries: [Entry; SHOPS],
     pub(crate) next: Cursor,

@@ -1,4 +1,6 @@
 // Codes, registers and slips: their values, their texts, and the answers that reading and writing give.
+#![tactic(auto)]
+
 pub mod answers;
 pub mod bounds;
 mod code;

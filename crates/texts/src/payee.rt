@@ -20,7 +20,7 @@ const TO_PAYER: usize = 6;
 const TO_PAYEE: usize = 21;
 
 // Is a shop's code listed in a register's text, and where it starts there.
-#[derive(Drop)]
+#[derive(Clone, Copy)]
 struct Spot {
     listed: bool,
     start: usize,

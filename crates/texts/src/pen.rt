@@ -9,7 +9,7 @@ ghost use Rattle.texts.specs.Inside.{Room, Wrote};
 use crate::code::Code;
 
 // What writing to a lent buffer answers: the answer's number and the length of the text.
-#[derive(Drop)]
+#[derive(Clone, Copy)]
 pub struct Written {
     pub answer: u8,
     pub count: usize,

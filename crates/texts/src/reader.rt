@@ -12,7 +12,7 @@ use crate::entry::{EntriesAt, entries_at};
 use crate::lines::{code_line, number_line};
 
 // The text, and the place where its next line begins.
-#[derive(Drop)]
+#[derive(Clone, Copy)]
 pub(crate) struct Reader<'a> {
     pub(crate) text: &'a [u8],
     pub(crate) at: Cursor,

@@ -14,7 +14,7 @@ use crate::pen::{Written, put_code_line, put_number_line};
 use crate::reader::Reader;
 
 // `count` shops; the number of each is its opening credit; zeros in the places that are not used.
-#[derive(Drop)]
+#[derive(Clone, Copy)]
 pub struct Register {
     pub count: usize,
     pub shops: [Entry; SHOPS],
@@ -22,14 +22,14 @@ pub struct Register {
 }
 
 // What reading a register's text answers; refused: a register of zeros.
-#[derive(Drop)]
+#[derive(Clone, Copy)]
 pub struct RegisterRead {
     pub answer: u8,
     pub register: Register,
 }
 
 // A register that was read, and the place after it.
-#[derive(Drop)]
+#[derive(Clone, Copy)]
 struct RegisterAt {
     register: Register,
     next: Cursor,
@@ -168,11 +168,12 @@ fn register_at(s: &[u8], c: Cursor) -> RegisterAt
     reader.at = head.next;
     let count = head.value as usize;
     let list = reader.entries(b"shop=", count);
+    let shops = list.entries;
     reader.at = list.next;
     let tail = reader.code(b"own=", b'\n');
     let register = Register {
         count,
-        shops: list.entries,
+        shops,
         own: tail.code,
     };
     RegisterAt {

@@ -13,7 +13,7 @@ use crate::reader::Reader;
 
 // `count` dependencies, each the first `number` slips of a shop, zeros in the places that are not used.
 // The last place is never used: shops and dependencies have one type of list.
-#[derive(Drop)]
+#[derive(Clone, Copy)]
 pub struct Slip {
     pub payer: Code,
     pub number: u32,
@@ -24,14 +24,14 @@ pub struct Slip {
 }
 
 // What reading a slip's text answers; refused: a slip of zeros.
-#[derive(Drop)]
+#[derive(Clone, Copy)]
 pub struct SlipRead {
     pub answer: u8,
     pub slip: Slip,
 }
 
 // A slip that was read, and the place after it.
-#[derive(Drop)]
+#[derive(Clone, Copy)]
 struct SlipAt {
     slip: Slip,
     next: Cursor,
@@ -99,13 +99,14 @@ fn slip_at(s: &[u8], c: Cursor) -> SlipAt
     reader.at = head.next;
     let count = head.value as usize;
     let list = reader.entries(b"dep=", count);
+    let deps = list.entries;
     let slip = Slip {
         payer: paying.code,
         number: numbered.value,
         payee: paid.code,
         amount: moved.value,
         count,
-        deps: list.entries,
+        deps,
     };
     SlipAt {
         slip,

@@ -2,7 +2,7 @@
 use replica::Replica;
 
 // Did the call's bytes fit, the page's place after its lines, and the current record after it.
-#[derive(Drop)]
+#[derive(Clone, Copy)]
 pub(crate) struct Called {
     pub(crate) ok: bool,
     pub(crate) at: usize,

@@ -1,4 +1,6 @@
 // Makes the calls of a script that comes in on standard input, and prints what each answers.
+#![tactic(auto)]
+
 mod called;
 mod calls;
 mod page;
@@ -29,7 +31,7 @@ const TRIALS: usize = 9999;
 
 // A call that was made: the bytes of the script that it took, 0 where they are no call, the page's place after its lines, and the
 // current record after it.
-#[derive(Drop)]
+#[derive(Clone, Copy)]
 struct Made {
     taken: usize,
     at: usize,

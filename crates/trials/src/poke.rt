@@ -31,7 +31,7 @@ const BYTES: usize = 256;
 const NUMBERS: usize = 4294967296;
 
 // The field to change, where it stands, and what it becomes.
-#[derive(Drop)]
+#[derive(Clone, Copy)]
 struct Poke {
     field: Word,
     i: usize,

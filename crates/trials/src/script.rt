@@ -32,7 +32,7 @@ const MOST_FRONT: usize = 999999999;
 const NO_DIGIT: usize = 10;
 
 // The two numbers of a header; `ok` is false where the bytes are no header.
-#[derive(Drop)]
+#[derive(Clone, Copy)]
 pub(crate) struct Header {
     pub(crate) room: usize,
     pub(crate) text: usize,

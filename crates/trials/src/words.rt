@@ -5,7 +5,7 @@ use crate::parts::same;
 pub(crate) const WORD: usize = 8;
 
 // What a word stands for. Where it may stand is not known here: `balance` and `payee` are both a call and a field.
-#[derive(Drop)]
+#[derive(Clone, Copy)]
 pub(crate) enum Word {
     Register,
     Slip,
@@ -38,7 +38,7 @@ pub(crate) enum Word {
 }
 
 // A word's bytes, and what it stands for.
-#[derive(Drop)]
+#[derive(Clone, Copy)]
 struct Row([u8; WORD], Word);
 
 // The words that there are: a new call is a row here, an arm of `call`, and a function of its own.
