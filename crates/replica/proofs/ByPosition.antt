@@ -13,7 +13,7 @@ use Rattle.texts.specs.Bytes.{bytes, all_of}
 use Rattle.texts.specs.Answers.{Meaning, answer_of}
 use Rattle.texts.specs.Code.{code, same_code}
 use Rattle.texts.specs.Entries.{no_entry}
-use Rattle.texts.specs.Register.{place, shops_of, position, listed, register_answer}
+use Rattle.texts.specs.Register.{shops_of, position, listed, register_answer}
 use Rattle.texts.specs.Slip.{dep_line, slip_layout, deps_of}
 use Rattle.texts.specs.declared.entry.Entry.{Entry}
 use Rattle.texts.specs.declared.register.Register.{Register}

@@ -25,7 +25,6 @@ use Rattle.replica.specs.State.{zero_shop, lawful}
 use Rattle.replica.specs.Settle.{first_waiting, ready}
 use Rattle.replica.specs.Take.{payer_of}
 use Rattle.replica.specs.Issue.{own_shop, busy?, issue_rows, issued_slip}
-use Rattle.replica.specs.Calls.{balance}
 use Rattle.replica.specs.Demand.{start}
 use Rattle.replica.specs.Lasting.{StepsKeep}
 use Rattle.replica.specs.Algorithm.{Transfer, OneOf, Has, Named, Stands, Locals, initially, Valid, InHistoryOf, InSomeHistory, last_of, message_of, first_of}

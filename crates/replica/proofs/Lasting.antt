@@ -14,7 +14,6 @@ use Rattle.replica.specs.State.{lawful}
 use Rattle.replica.specs.Settle.{first_waiting, ready, apply, Settles, stop, step}
 use Rattle.replica.specs.Take.{slip_from, entered}
 use Rattle.replica.specs.Issue.{issuing}
-use Rattle.replica.specs.Calls.{end}
 use Rattle.replica.specs.Lasting.{StepsKeep, ReadyStays, ReadyIsApplied, Crossed, SameFront, CrossedForEver}
 use Rattle.replica.proofs.Sums.{either}
 use Rattle.replica.proofs.Quiet.{apply-count}

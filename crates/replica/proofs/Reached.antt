@@ -16,7 +16,6 @@ use Rattle.replica.specs.declared.record.Replica.{Replica}
 use Rattle.replica.specs.Record.{shop_count, shop_at, line_at}
 use Rattle.replica.specs.Slips.{slip_of, slip_at, firsts, waiting_slips}
 use Rattle.replica.specs.Checks.{passes}
-use Rattle.replica.specs.State.{lawful}
 use Rattle.replica.specs.Settle.{first_waiting, ready, apply, Settles, stop, step}
 use Rattle.replica.specs.Take.{payer_of, entered}
 use Rattle.replica.specs.Calls.{Lines, noted, applied_along}

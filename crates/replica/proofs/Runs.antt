@@ -15,7 +15,6 @@ use Rattle.replica.specs.declared.record.Replica.{Replica}
 use Rattle.replica.specs.Record.{shop_count, shop_at, line_at}
 use Rattle.replica.specs.Slips.{slip_at, firsts}
 use Rattle.replica.specs.Checks.{passes}
-use Rattle.replica.specs.State.{lawful}
 use Rattle.replica.specs.Settle.{first_waiting, ready, apply, applying}
 use Rattle.replica.specs.Open.{fresh, opened}
 use Rattle.replica.specs.Take.{slip_from, payer_of, take_answer, entered, taken}

@@ -1,7 +1,7 @@
 -- What the crate's private functions promise one another: the state rule by position, and the parts of take, settle and issue. No public
 -- promise rests on a word of it.
 use Rattle.std.specs.Prelude.{◌≡◌, Bool, true, false, not, ◌&&◌, ◌||◌, List, [], ◌∷◌, ◌++◌, map, ℕ, zero, suc, ◌+◌, ◌-◌, ◌≤◌, ◌<◌, leb, ltb, eqb, length, get_or, replicate}
-use Rattle.texts.specs.Answers.{Row, shop, oneself, range, deps, number, full, busy, short, usedup, answer_of}
+use Rattle.texts.specs.Answers.{Row, shop, oneself, range, number, full, busy, short, usedup, answer_of}
 use Rattle.texts.specs.Bounds.{most_shops, most}
 use Rattle.texts.specs.Code.{same_code}
 use Rattle.texts.specs.Register.{opening, position, listed}
