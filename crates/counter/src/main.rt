@@ -3,24 +3,27 @@
 
 use desk::Desk;
 use desk::bounds::{PAGE, WINDOW};
-use libc::{STDIN_FILENO, STDOUT_FILENO};
+use std::io::{Read, Write};
 
-// A loop that is proved must end, and nothing says that an input does: it counts down from a number that no run uses up.
-fn main() {
+// A loop that is proved must end, and nothing says that an input does: it counts down from a number that no run uses up. A read
+// that fails is the end of the input, and after the first write that fails nothing is written.
+fn main(rt: HostRuntime) {
+    let mut input = rt.stdin();
+    let mut output = rt.stdout();
     let mut window = [0u8; WINDOW];
     let mut page = [0u8; PAGE];
     let mut desk = Desk::new();
     let mut turns = u64::MAX;
     while turns > 0 {
         turns -= 1;
-        let n = io::count(libc::read(STDIN_FILENO, &mut window), &window);
+        let n = input.read(&mut window).unwrap_or(0);
         if n == 0 {
             break;
         }
         let fed = desk.feed(&window, n, &mut page);
         desk = fed.desk;
         let count = fed.count;
-        if !io::write_all(STDOUT_FILENO, &page[..count]) {
+        if output.write_all(&page[..count]).is_err() {
             return;
         }
         if desk.stops() {
@@ -28,5 +31,5 @@ fn main() {
         }
     }
     let count = desk.close(&mut page);
-    io::write_all(STDOUT_FILENO, &page[..count]);
+    let _ = output.write_all(&page[..count]);
 }
