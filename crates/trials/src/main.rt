@@ -16,12 +16,13 @@ mod words;
 ghost use Rattle.std.specs.Prelude.{◌≤◌, length};
 
 use calls::{call, raw_bytes};
-use libc::{STDIN_FILENO, STDOUT_FILENO};
 use page::{PAGE_FULL, PAGE_ROOM, put};
 use parts::part;
 use replica::Replica;
 use report::{BUFFER, put_trial};
 use script::{HEADER, call_bytes, read_header};
+use std::io;
+use std::io::{Read, Write};
 use words::{WORD, word_of};
 
 // The bytes of a script that are read; what follows them is not.
@@ -77,18 +78,18 @@ fn make(page: &mut [u8], at: usize, trial: usize, left: &[u8], record: Replica) 
 }
 
 // Prints the page up to a place.
-fn print(page: &[u8], at: usize) -> bool {
-    io::write_all(STDOUT_FILENO, part(page, 0, at))
+fn print(rt: &impl Print, page: &[u8], at: usize) -> bool {
+    io::writer(rt).write_all(part(page, 0, at)).is_ok()
 }
 
 // Prints the page up to a place, and that the script is bad.
-fn print_bad(page: &mut [u8], at: usize) {
+fn print_bad(rt: &impl Print, page: &mut [u8], at: usize) {
     let end = put(page, at, b"script=bad\n");
-    print(page, end);
+    print(rt, page, end);
 }
 
 // Makes the calls one after the other, until the script ends or is bad, or printing fails.
-fn run(script: &[u8], page: &mut [u8]) {
+fn run(rt: &impl Print, script: &[u8], page: &mut [u8]) {
     // A text that is no register leaves the record of zeros.
     let none = Replica::open(b"");
     let mut record = none.replica;
@@ -102,24 +103,39 @@ fn run(script: &[u8], page: &mut [u8]) {
         at = made.at;
         record = made.record;
         if taken == 0 {
-            print_bad(page, at);
+            print_bad(rt, page, at);
             return;
         }
         if PAGE_FULL < at {
-            if !print(page, at) {
+            if !print(rt, page, at) {
                 return;
             }
             at = 0;
         }
         from += taken;
     }
-    print(page, at);
+    print(rt, page, at);
+}
+
+// Reads until the bytes are full, the input ends or a read fails; answers how many were read.
+fn read_full(input: &mut impl Read, bytes: &mut [u8]) -> usize
+    ensures { result ≤ length bytes.new }
+{
+    let mut done = 0;
+    while done < bytes.len() {
+        let n = input.read(&mut bytes[done..]).unwrap_or(0);
+        if n == 0 {
+            break;
+        }
+        done += n;
+    }
+    done
 }
 
 // Reads the script, and makes its calls.
-fn main() {
+fn main(rt: HostRuntime) {
     let mut script = [0u8; SCRIPT_ROOM];
     let mut page = [0u8; PAGE_ROOM];
-    let n = io::read_full(STDIN_FILENO, &mut script);
-    run(&script[..n], &mut page);
+    let n = read_full(&mut rt.stdin(), &mut script);
+    run(&rt, &script[..n], &mut page);
 }

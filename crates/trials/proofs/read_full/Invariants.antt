@@ -1,0 +1,10 @@
+-- What has been read lies within the bytes, which keep their length; the measure is what is left of them.
+use Prim.Native.Nat.{◌≤◌, ◌-◌}
+use lib.ListN.{length}
+use Rattle.trials.proofs.read_full.Given as goal
+
+abbrev pub invariant-loop-done : goal.invariant-loop-done
+invariant-loop-done g l = l.done ≤ length l.bytes
+
+abbrev pub decreases-loop-done : goal.decreases-loop-done
+decreases-loop-done g l = length l.bytes - l.done
