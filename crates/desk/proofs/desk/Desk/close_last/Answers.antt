@@ -1,13 +1,11 @@
 -- Nothing is left where the desk has stopped or no byte of a slip has come; otherwise a chunk ends.
-use mathlib.Core.Path.{sym, ◌∙◌}
+use mathlib.Core.Path.{sym, ◌∙◌, subst, ◌≡◌}
 use native.Mathlib.Omega.{arith}
 use Rattle.texts.proofs.Writing.{wrote_nothing}
 use Rattle.desk.proofs.Feeding.{slips-left, last-stopped, last_empty, last-register, last-slip, renamed}
-use mathlib.Core.Path.{subst}
 use mathlib.Core.List.{List}
 use Prim.Native.Nat.{ℕ}
 use Rattle.texts.specs.Inside.{Wrote}
-use mathlib.Core.Path.{◌≡◌}
 use Rattle.desk.specs.Desk.{ends, end_said, last, last_said}
 use Rattle.desk.proofs.desk.Desk.close_last.Goals as goal
 use Rattle.desk.proofs.desk.Desk.close_last.Goals.{else-self-via-then-self+else-self-eq0, else-self-via-else-self}

@@ -1,11 +1,10 @@
 -- The bytes one after the other: before each turn the first of them are fed, and the page holds what was said.
 use borrow.Author.Rules.{rules}
-use mathlib.Core.Path.{sym, ◌∙◌}
+use mathlib.Core.Path.{sym, ◌∙◌, ◌≡◌}
 use native.Mathlib.Omega.{arith}
 use lib.ListN.{get_or}
 use Rattle.texts.proofs.Steps.{and}
 use Rattle.desk.proofs.Feeding.{feeding-none, feeding-room, feeding-ended, feeding-kept, feeding-done, feeding-stopped, feeding-same, slips-left, no_line_lem, other_byte, keeps-room, keeps-none, begun}
-use mathlib.Core.Path.{◌≡◌}
 use mathlib.Core.Bool.{false}
 use Rattle.desk.specs.Chunks.{empty_line}
 use Rattle.desk.specs.Desk.{keeps}
