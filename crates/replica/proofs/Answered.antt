@@ -12,9 +12,6 @@ pub record Gives (o promised : Outcome) (after bytes : List ℕ) : Type 0 where
   pub outcome : o ≡ promised
   pub lent : after ≡ bytes
 
-pub gives : {o promised : Outcome} {after bytes : List ℕ} → Gives o promised after bytes → (o ≡ promised) × (after ≡ bytes)
-gives g = (g.outcome, g.lent)
-
 -- the outcome, and the lent bytes, at an answer
 abbrev pub outcome_if : Outcome → Replica → ℕ → Outcome
 outcome_if o self answer = elim answer as (λ _. Outcome) [ zero ↦ o | suc n ↦ refused (suc n) self ]
