@@ -5,8 +5,8 @@
 -- 2. Line 35 is asked over the histories of all accounts; where every named transfer pays the payer the two readings of it are one
 --    (`ReadyIsValidAsPrinted`).
 -- 3. The set h is written as one number per shop; `Stands` says which sets such numbers stand for.
--- 4. A validated transfer leaves to_validate, which never shrinks in print; it is kept per process in the order of delivery, and the first of
---    each is looked at: no later one is valid (`OnlyFirstIsValid`).
+-- 4. A validated transfer leaves to_validate (the figure's toValidate), which never shrinks in print; it is kept per process in the order of
+--    delivery, and the first of each is looked at: no later one is valid (`OnlyFirstIsValid`).
 -- 5. hist and deps, sets in print, are lists in the order of entering; a transfer enters each once.
 -- 6. The sender q of line 16 is the payer on the slip, for which the carrier vouches. Only slips that take accepts are delivered, and only
 --    what issue accepts is broadcast.

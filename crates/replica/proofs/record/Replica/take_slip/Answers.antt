@@ -43,6 +43,8 @@ returns-then-line-ge-WAITING c =
     let given : Gives c.refused-then-line-ge-WAITING.result (took_slip c.args.self c.args.slip) c.args.list.now (took_list c.args.self c.args.slip c.args.list.now) = search (full-refused, payer-place, rules) in
     record { outcome = given.outcome; bytes = given.lent }
 
+-- The slip is accepted: it goes last in its payer's line,
+-- and the state that is settled is the one with the slip there.
 pub waiting_of-waiting-requires : goal.waiting_of-waiting-requires
 waiting_of-waiting-requires c = (search (register_of, rules), search rules, search (shop-clear, rules), search rules)
 
