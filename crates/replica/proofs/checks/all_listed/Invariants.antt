@@ -1,5 +1,4 @@
 -- The payer, the payee and the dependencies are listed where their positions are below the number of shops.
--- `held` is what the checker knows of the slip's count and dependencies: their length.
 use lib.Dec.{ltb}
 use Prim.Native.Nat.{◌-◌}
 use Rattle.replica.proofs.Checked.{Left}

@@ -1,5 +1,4 @@
 -- The positions are asked one after the other: those from `i` on decide whether they rise, until one does not or none is left.
--- `held` is what the checker knows of the slip's count and dependencies: their length.
 use mathlib.Core.Path.{◌≡◌}
 use lib.ListN.{length}
 use native.Mathlib.Omega.{arith}

@@ -1,5 +1,4 @@
 -- The positions are asked one after the other: those from `i` on decide whether they rise, until one does not or none is left.
--- `held` is what the checker knows of the slip's count and dependencies: their length.
 use Prim.Native.Nat.{◌-◌}
 use Rattle.replica.proofs.Checked.{Risen}
 use Rattle.replica.proofs.checks.deps_rise.Given as goal
