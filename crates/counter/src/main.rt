@@ -5,7 +5,7 @@ use desk::Desk;
 use desk::bounds::{PAGE, WINDOW};
 use std::io::{Read, Write};
 
-// A loop that is proved must end, and nothing says that an input does: it counts down from a number that no run uses up. A read
+// A loop that is proved must end, and nothing says that an input does: it counts to a number that no run reaches. A read
 // that fails is the end of the input, and after the first write that fails nothing is written.
 fn main(rt: HostRuntime) {
     let mut input = rt.stdin();
@@ -13,16 +13,12 @@ fn main(rt: HostRuntime) {
     let mut window = [0u8; WINDOW];
     let mut page = [0u8; PAGE];
     let mut desk = Desk::new();
-    let mut turns = u64::MAX;
-    while turns > 0 {
-        turns -= 1;
+    for _ in 0..u64::MAX {
         let n = input.read(&mut window).unwrap_or(0);
         if n == 0 {
             break;
         }
-        let fed = desk.feed(&window, n, &mut page);
-        desk = fed.desk;
-        let count = fed.count;
+        let count = desk.feed(&window, n, &mut page);
         if output.write_all(&page[..count]).is_err() {
             return;
         }

@@ -18,7 +18,7 @@ use Rattle.texts.proofs.Lengths.{code-line-most}
 use Rattle.texts.proofs.Paging.{line-length}
 use Rattle.texts.proofs.Promises.{why-at-most}
 use Rattle.replica.specs.declared.record.Replica.{Replica}
-use Rattle.replica.specs.declared.outcome.Outcome.{Outcome}
+use Rattle.replica.specs.Outcome.{Outcome}
 use Rattle.replica.specs.Bounds.{list_room}
 use Rattle.replica.specs.Record.{listed_at, shop_count, shop_at, line_at}
 use Rattle.replica.specs.Slips.{firsts}

@@ -9,7 +9,7 @@ use lib.Seq.{take-nil}
 use lib.Dec.{leb, eqb}
 use borrow.Author.Tests.{lt-leb, ne_eqb}
 use Rattle.replica.specs.declared.record.Replica.{Replica}
-use Rattle.replica.specs.declared.outcome.Outcome.{Outcome}
+use Rattle.replica.specs.Outcome.{Outcome}
 use Rattle.replica.specs.Record.{no_replica}
 use Rattle.replica.specs.Open.{opened}
 use Rattle.replica.proofs.Promises.{opens-lawful, refused-gives-zeros, zeros-unlawful}

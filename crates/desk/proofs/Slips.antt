@@ -9,7 +9,7 @@ use lib.ListN.{take}
 use lib.Seq.{take-nil}
 use lib.Dec.{leb}
 use borrow.Author.Tests.{leb-true, leb-false, eq-eqb, ne_eqb}
-use Rattle.replica.specs.declared.outcome.Outcome.{Outcome}
+use Rattle.replica.specs.Outcome.{Outcome}
 use Rattle.replica.specs.State.{lawful}
 use Rattle.replica.specs.Take.{taken}
 use Rattle.replica.proofs.Promises.{takes-lawful}

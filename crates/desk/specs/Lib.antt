@@ -3,3 +3,4 @@ pub mod Chunks
 pub mod Printed
 pub mod Desk
 pub mod Windows
+pub mod Inside

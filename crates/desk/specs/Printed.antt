@@ -6,7 +6,7 @@ use Rattle.texts.specs.Lines.{code_line}
 use Rattle.texts.specs.Answers.{why}
 use Rattle.texts.specs.declared.code.Code.{Code}
 use Rattle.replica.specs.declared.record.Replica.{Replica}
-use Rattle.replica.specs.declared.outcome.Outcome.{Outcome}
+use Rattle.replica.specs.Outcome.{Outcome}
 use Rattle.replica.specs.Bounds.{list_room}
 use Rattle.replica.specs.Record.{listed_at, shop_count, shop_at, line_at}
 use Rattle.replica.specs.Slips.{firsts}

@@ -5,4 +5,4 @@ pub mod bounds;
 mod desk;
 mod report;
 
-pub use desk::{Desk, Fed};
+pub use desk::Desk;

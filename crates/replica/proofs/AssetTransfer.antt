@@ -163,7 +163,7 @@ of-call p self (take text list) lines = go (take_answer self text list) refl
         rw (applied-along self text list lines e, took-along self text list e)
         (of-along p (entered self (slip_from text)) (applying (entered self (slip_from text))) lines)
     go (suc n) e = rw (applied-none self text list lines n e, took-nothing self text list n e) (unfold of_shop in sym (append-nil (lines p)))
-of-call p self (issue payee amount buffer) lines = unfold applied in_call of_shop in sym (append-nil (lines p))
+of-call p self (issue _ amount buffer) lines = unfold applied in_call of_shop in sym (append-nil (lines p))
 of-call p self (balance code) lines = unfold applied in_call of_shop in sym (append-nil (lines p))
 
 of-run : (p : ℕ) (self : Replica) (cs : List Call) (lines : Lines) → applied_from lines self cs p ≡ lines p ++ of_shop p (in_calls self cs)

@@ -1,43 +1,49 @@
 -- The state rule by position: its tests pass exactly when the rule's do.
-use mathlib.Core.Path.{◌≡◌, refl, sym, ap, ◌∙◌, subst}
+use mathlib.Core.Path.{◌≡◌, refl, sym, ap, ◌∙◌, subst, subst₂}
 use mathlib.Core.Bool.{Bool, true, false, not}
 use mathlib.Core.List.{List, [], ◌∷◌}
 use Prim.Native.Nat.{ℕ, zero, suc, ◌+◌, ◌-◌, ◌≤◌, ◌<◌}
 use native.Mathlib.Omega.{arith}
+use native.Mathlib.Numerals.{add-one}
 use native.Mathlib.Decide.{dec_lt}
+use Rattle.std.proofs.lemmas.List.Sums.{sum_by_more}
 use lib.ListN.{length, take, drop, get_or, replicate, length-drop, get_or-eq_default}
 use lib.Seq.{get_or-take, get_or-drop, length-take-le, take_at}
 use lib.Dec.{eqb, leb, ltb}
-use borrow.Author.Tests.{eqb-true, eqb-false, lt-ltb, le-leb, ne_eqb, eq-eqb, not-true, not-false}
+use borrow.Author.Tests.{eqb-true, eqb-false, lt-ltb, le-leb, ne_eqb, eq-eqb, not-true}
+use Rattle.std.specs.List.{sum_by}
+use Rattle.std.specs.Bool.{Decides}
+use Rattle.std.proofs.lemmas.List.{get_or_default}
+use Rattle.std.proofs.lemmas.Bool.Decides.{same_from_decides}
 use Rattle.texts.specs.Bytes.{bytes, all_of}
 use Rattle.texts.specs.Answers.{Meaning, answer_of}
 use Rattle.texts.specs.Code.{code, same_code}
 use Rattle.texts.specs.Entries.{no_entry}
-use Rattle.texts.specs.Register.{shops_of, position, listed, register_answer}
+use Rattle.texts.specs.Register.{shops_of, opening, position, listed, register_answer}
 use Rattle.texts.specs.Slip.{dep_line, slip_layout, deps_of}
 use Rattle.texts.specs.declared.entry.Entry.{Entry}
 use Rattle.texts.specs.declared.register.Register.{Register}
-use Rattle.texts.proofs.Values.{fails, clash}
+use Rattle.texts.proofs.Values.{fails}
 use Rattle.texts.proofs.Firsts.{zero-first, no_rows}
 use Rattle.texts.proofs.LawsTexts.{same_code_lem}
-use Rattle.texts.proofs.Steps.{both, and, nor, all_none, all_both, all-and, all-at, at_all, all_drop}
+use Rattle.texts.proofs.Steps.{both, and, nor, all_none, all_both, all-and, all-at, at_all}
 use Rattle.texts.proofs.Legal.{entry-legal, slip-legal, legal-slip, shop-code, RegisterLegal, register-legal}
 use Rattle.replica.specs.declared.record.Shop.{Shop}
 use Rattle.replica.specs.declared.record.Waiting.{Waiting}
 use Rattle.replica.specs.declared.record.Line.{Line}
 use Rattle.replica.specs.declared.record.Replica.{Replica}
-use Rattle.replica.specs.Record.{no_shop, listed_at, shop_count, own, shop_at, line_at, waiting_at}
+use Rattle.replica.specs.Record.{no_shop, no_waiting, no_line, listed_at, shop_count, shop_at, line_at, waiting_at, sum_to}
 use Rattle.replica.specs.Slips.{deps_from, slip_with, slip_of, slip_at}
 use Rattle.replica.specs.State.{zero_from, zero_shop, zero_waiting, zero_line, lawful}
 use Rattle.replica.specs.Checks.{range?, shop?, rising, deps?, slip_rows, passes}
-use Rattle.replica.specs.Inside.{slip_kept, place_kept, slip_place, numbers_kept, shop_kept, balanced, own_kept}
-use Rattle.replica.proofs.Sums.{every-at, at_every}
+use Rattle.replica.specs.Inside.{NeedsKept, SlipKept, LineKept, NumbersKept, ShopKept, RecordKept}
 use Rattle.replica.proofs.OneToOne.{below}
-use Rattle.replica.proofs.Parts.{Lined, Parts, parts, whole}
+use Rattle.replica.proofs.Parts.{Lined, parts, whole}
 use Rattle.replica.proofs.Applied.{passed-of, payee-below, payee-other}
 use Rattle.replica.proofs.Back.{place-self}
-use Rattle.replica.proofs.IssuedSlip.{from_up, from_all, from-fewer, up-rising}
-use Rattle.replica.proofs.Kept.{Held, held_none, held_more, held-done, NeedsKept, needs-kept, kept-needs, SlipKept, slip-kept, slip-rest, waiting_none, place-used, place-unused, LineKept, line_kept_lem, kept_line, NumbersKept, numbers-kept, numbers-rest, own-kept, own-rest, shop-used, shop-unused}
+use Rattle.replica.proofs.IssuedSlip.{zero-shop, from_up, from_all, from-fewer, up-rising}
+use Rattle.replica.proofs.Opened.{zero-waiting, zero-line, drop-replicate}
+use Rattle.replica.proofs.Kept.{blank-waiting, blank-line}
 
 -- ---- the places of an array from n on
 
@@ -155,7 +161,7 @@ module _ (r : Register) (R : RegisterLegal r) where
     pub kept-passes : (named : ℕ) → SlipKept w.payer r.count named w → 1 ≤ named → named ≤ 999999 → passes r (slip_of r w) ≡ true
     unfolding slip_of passes range? shop? deps?
     kept-passes named K some most =
-        let N = needs-kept _ _ _ K.needs in
+        let N = K.needs in
         let p = w.payer in
         let number = K.number in
         let near : (j : ℕ) → j < r.count → j < 16 = λ j h. omega (arith, R.fits.most) in
@@ -180,7 +186,7 @@ module _ (r : Register) (R : RegisterLegal r) where
         (zero-first Meaning.deps _ _ (ap not (ap (rising r (position r (listed_at r p).code) 0) same ∙ rises)) no_rows)))))
 
     -- passing them, it is kept by position
-    pub passes_kept : (named : ℕ) → w.number ≡ named → length w.needs ≡ 16 → passes r (slip_of r w) ≡ true → slip_kept w.payer r.count named w ≡ true
+    pub passes_kept : (named : ℕ) → w.number ≡ named → length w.needs ≡ 16 → passes r (slip_of r w) ≡ true → SlipKept w.payer r.count named w
     unfolding slip_of
     passes_kept named number places t =
         let P = passed-of r (slip_of r w) t in
@@ -190,17 +196,24 @@ module _ (r : Register) (R : RegisterLegal r) where
         let legal : all_of dep_line.legal ds ≡ true = ap (all_of dep_line.legal) (sym same) ∙ S.used in
         let others = rising-other r (position r (listed_at r p).code) 0 ds (ap (rising r (position r (listed_at r p).code) 0) (sym same) ∙ P.rises) in
         let most : (j m : ℕ) → get_or w.needs j 0 ≡ m → m ≤ 999999 = λ j m e. upto j (get_or w.needs j 0) (λ q. dep-at dep_line.legal legal j (below j q) q) m e in
-        sym (slip-rest p r.count named w refl number P.amount S.amount (payee-below r w R P) (λ e. payee-other r w P (sym e)) true
-        (sym (kept-needs r.count p w.needs record {
-          places = places;
-          at = λ j h. record {
-            most = most j (get_or w.needs j 0) refl;
-            known = below j;
-            other = λ q e.
-                let o = dep-at (λ (d : Entry). not (eqb (position r d.code) (position r (listed_at r p).code))) others j (below j q) q in
-                eqb-false _ _ (not-true _ o) (ap (λ (i : ℕ). position r (listed_at r i).code) e);
+        record {
+          payer = refl;
+          number = number;
+          some = P.amount;
+          most = S.amount;
+          payee = payee-below r w R P;
+          other = λ e. payee-other r w P (sym e);
+          needs = record {
+            places = places;
+            at = λ j h. record {
+              most = most j (get_or w.needs j 0) refl;
+              known = below j;
+              other = λ q e.
+                  let o = dep-at (λ (d : Entry). not (eqb (position r d.code) (position r (listed_at r p).code))) others j (below j q) q in
+                  eqb-false _ _ (not-true _ o) (ap (λ (i : ℕ). position r (listed_at r i).code) e);
+            };
           };
-        })))
+        }
       where
         upto : (j n : ℕ) → (0 < n → dep_line.legal (record { code = (listed_at r j).code; number = n }) ≡ true) → (m : ℕ) → n ≡ m → m ≤ 999999
         upto j n f zero e = omega arith
@@ -212,8 +225,8 @@ abbrev zero_needs : ℕ → Waiting → Bool
 zero_needs n w = zero_from 16 (eqb 0) n w.needs
 
 -- those of shops that there are not are zero
-kept-zero : (n payer : ℕ) (w : Waiting) → NeedsKept n payer w.needs → zero_needs n w ≡ true
-kept-zero n payer w N =
+kept-zero : (payer n : ℕ) (w : Waiting) → NeedsKept payer n w.needs → zero_needs n w ≡ true
+kept-zero payer n w N =
     and _ _ (eq-eqb (length w.needs) 16 N.places) (from_each (eqb 0) n w.needs 0 (λ j a b.
     let K = N.at j (omega (arith, N.places)) in
     eq-eqb 0 _ (sym (not_some (get_or w.needs j 0) (λ q. omega (arith, K.known q))))))
@@ -239,14 +252,11 @@ module _ (self : Replica) (R : RegisterLegal self.register) (p : ℕ) (h : p < s
   abbrev s : Shop
   s = shop_at self p
 
-  abbrev place_test : ℕ → Bool
-  place_test k = place_kept k l.count p (shop_count self) s.applied (slip_place l k)
-
   -- kept by position, it is as the rule says
-  kept-lined : NumbersKept l.count s → LineKept p (shop_count self) s.applied l → Lined self p
-  kept-lined N L = record {
+  kept-lined : ShopKept p (shop_count self) s l → Lined self p
+  kept-lined K = record {
     places = L.places;
-    rest = from_each zero_waiting l.count l.slips unused none;
+    rest = at_all zero_waiting (drop l.count l.slips) unused (λ k h. ap zero_waiting (L.unused k unused h) ∙ zero-waiting);
     needs = from_each (zero_needs (shop_count self)) 0 l.slips unused needs;
     eight = L.eight;
     taken = N.taken;
@@ -257,22 +267,29 @@ module _ (self : Replica) (R : RegisterLegal self.register) (p : ℕ) (h : p < s
     mark = N.mark;
   }
     where
-      slip : (k : ℕ) → k < l.count → SlipKept p (shop_count self) (s.applied + 1 + k) (waiting_at self p k)
-      slip k q = slip-kept _ _ _ _ (sym (place-used k l.count p (shop_count self) s.applied (waiting_at self p k) q) ∙ every-at 8 place_test L.slips k (omega (arith, L.eight)))
+      N : NumbersKept l.count s
+      N = K.numbers
 
-      none : (k : ℕ) → l.count ≤ k → k < length l.slips → zero_waiting (waiting_at self p k) ≡ true
-      none k a b = sym (place-unused k l.count p (shop_count self) s.applied (waiting_at self p k) a) ∙ every-at 8 place_test L.slips k (omega (arith, L.places))
+      L : LineKept p (shop_count self) s.applied l
+      L = K.line
+
+      slip : (k : ℕ) → k < l.count → SlipKept p (shop_count self) (s.applied + 1 + k) (waiting_at self p k)
+      slip k q =
+          subst (SlipKept p (shop_count self) (s.applied + 1 + k)) (get_or-take l.count l.slips k unused q)
+          (L.used k unused (omega (arith, L.places, L.eight, length-take-le l.count l.slips)))
+
+      none : (k : ℕ) → l.count ≤ k → k < 8 → waiting_at self p k ≡ no_waiting
+      none k a b =
+          let j : l.count + (k - l.count) ≡ k = omega arith in
+          sym (get_or-drop l.count l.slips (k - l.count) unused ∙ ap (λ i. get_or l.slips i unused) j) ∙ L.unused (k - l.count) unused (omega (arith, L.places, length-drop l.count l.slips))
 
       used-needs : (k : ℕ) → k < l.count → zero_needs (shop_count self) (waiting_at self p k) ≡ true
-      used-needs k q = kept-zero (shop_count self) p (waiting_at self p k) (needs-kept _ _ _ (slip k q).needs)
+      used-needs k q = kept-zero p (shop_count self) (waiting_at self p k) (slip k q).needs
 
       needs : (k : ℕ) → 0 ≤ k → k < length l.slips → zero_needs (shop_count self) (waiting_at self p k) ≡ true
       needs k a b = elim (dec_lt k l.count) [
         | yes q ↦ used-needs k q
-        | no q ↦
-            let w = waiting_at self p k in
-            let z = both (eqb (length w.needs) 16) (all_of (eqb 0) w.needs) (waiting_none w (none k (omega arith) b)).needs in
-            and _ _ z.0 (all_drop (eqb 0) (shop_count self) w.needs z.1)
+        | no q ↦ ap (zero_needs (shop_count self)) (none k (omega arith) (omega (arith, L.places))) ∙ drop-replicate (shop_count self) 16 0 (eqb 0) refl
       ]
 
       pass : (k : ℕ) → k < l.count → passes self.register (slip_at self p k) ≡ true
@@ -283,131 +300,103 @@ module _ (self : Replica) (R : RegisterLegal self.register) (p : ℕ) (h : p < s
           (subst (λ (i : ℕ). SlipKept i (shop_count self) (s.applied + 1 + k) w) (sym K.payer) K) (omega arith) (omega (arith, N.taken, N.most))
 
   -- as the rule says, it is kept by position
-  lined-kept : Lined self p → shop_kept (shop_count self) p s l ≡ true
-  lined-kept L =
-      shop-used (shop_count self) p s l h
-      ∙ and _ _ (sym (numbers-rest l.count s L.taken L.most) ∙ le-leb s.mark s.applied L.mark)
-      (kept_line p (shop_count self) s.applied l record { places = L.places; eight = L.eight; slips = at_every 8 place_test place })
+  lined-kept : Lined self p → ShopKept p (shop_count self) s l
+  lined-kept L = record {
+    numbers = record { taken = L.taken; most = L.most; mark = L.mark };
+    line = record {
+      places = L.places;
+      eight = L.eight;
+      used = λ k z h.
+          let q : k < l.count = omega (arith, few) in
+          subst (SlipKept p (shop_count self) (s.applied + 1 + k)) (get_or_default l.slips k unused z (omega (arith, L.places, L.eight)) ∙ sym (get_or-take l.count l.slips k z q)) (slip k q);
+      unused = λ k z h. blank-waiting _ (all-at zero_waiting (drop l.count l.slips) z k L.rest h);
+    };
+  }
     where
-      slip : (k : ℕ) → k < l.count → slip_kept p (shop_count self) (s.applied + 1 + k) (waiting_at self p k) ≡ true
+      slip : (k : ℕ) → k < l.count → SlipKept p (shop_count self) (s.applied + 1 + k) (waiting_at self p k)
       slip k q =
           let w = waiting_at self p k in
           let z = all-at (zero_needs (shop_count self)) l.slips unused k L.needs (omega (arith, L.places, L.eight)) in
           let a = both (eqb (length w.needs) 16) (all_of (eqb 0) (drop (shop_count self) w.needs)) z in
-          subst (λ (i : ℕ). slip_kept i (shop_count self) (s.applied + 1 + k) w ≡ true) (L.payers k q)
+          subst (λ (i : ℕ). SlipKept i (shop_count self) (s.applied + 1 + k) w) (L.payers k q)
           (passes_kept self.register R w (omega (arith, L.payers k q)) (zero-at (shop_count self) w z) (s.applied + 1 + k) (L.numbers k q) (eqb-true _ 16 a.0) (L.pass k q))
 
-      place : (k : ℕ) → k < 8 → place_test k ≡ true
-      place k b = elim (dec_lt k l.count) [
-        | yes q ↦ place-used k l.count p (shop_count self) s.applied (waiting_at self p k) q ∙ slip k q
-        | no q ↦ place-unused k l.count p (shop_count self) s.applied (waiting_at self p k) (omega arith) ∙ each_from zero_waiting l.count l.slips unused L.rest k (omega arith) (omega (arith, L.places))
-      ]
+      few : length (take l.count l.slips) ≡ l.count
+      few = length-take-le l.count l.slips (omega (arith, L.places, L.eight))
 
 -- ---- the whole record
 
--- what the tests by position say
-pub record Tested (self : Replica) : Type 0 where
-  pub register : register_answer self.register ≡ 0
-  pub own_shop : own_kept self.issued (shop_at self (own self)) ≡ true
-  pub sums : balanced self.register self.shops ≡ true
-  pub kept : (p : ℕ) → p < 16 → shop_kept (shop_count self) p (shop_at self p) (line_at self p) ≡ true
+-- a sum over the first n of a list is one over the positions below n
+sum-front : {A : Type 0} (f : A → ℕ) (n : ℕ) (xs : List A) (z : A) → n ≤ length xs → sum_by f (take n xs) ≡ sum_to n (λ p. f (get_or xs p z))
+unfolding sum_to
+sum-front f zero xs z h = refl
+sum-front f (suc n) xs z h =
+    ap (λ k. sum_by f (take k xs)) (sym (add-one n)) ∙ sum_by_more f xs n z (omega arith) ∙ ap (λ t. t + f (get_or xs n z)) (sum-front f n xs z (omega arith))
 
-pub lawful-tested : (self : Replica) → lawful self ≡ true → Tested self
-unfolding balanced
-lawful-tested self e =
-    record {
-      register = P.register;
-      own_shop = sym (own-rest self.issued (shop_at self (own self)) P.own_mark P.issued) ∙ le-leb _ _ P.issued_own;
-      sums = eq-eqb _ _ P.sums;
-      kept = λ p h. elim (dec_lt p (shop_count self)) [
-        | yes l ↦ lined-kept self (register-legal self.register P.register) p l (P.lined p l)
-        | no l ↦ shop-unused (shop_count self) p (shop_at self p) (line_at self p) (omega arith) ∙ and _ _ (zero-there zero_shop self.shops no_shop P.shop_places P.shop_rest p (omega arith) h) (zero-there zero_line self.lines _ P.line_places P.line_rest p (omega arith) h)
-      ];
-    }
-  where
-    P : Parts self
-    P = parts self e
+module _ (self : Replica) (legal : register_answer self.register ≡ 0) where
+  abbrev n : ℕ
+  n = shop_count self
 
-    zero-there : {A : Type 0} (t : A → Bool) (xs : List A) (z : A) → length xs ≡ 16 → all_of t (drop (shop_count self) xs) ≡ true → (p : ℕ) → shop_count self ≤ p → p < 16 → t (get_or xs p z) ≡ true
-    zero-there t xs z places e p a b = each_from t (shop_count self) xs z e p a (omega arith)
+  R : RegisterLegal self.register
+  R = register-legal self.register legal
 
-pub tested-lawful : (self : Replica) → length self.shops ≡ 16 → length self.lines ≡ 16 → Tested self → lawful self ≡ true
-unfolding balanced
-tested-lawful self shops lines T =
-    whole self record {
-      register = T.register;
-      shop_places = shops;
-      shop_rest = from_each zero_shop (shop_count self) self.shops no_shop (λ p a b. (zeros p a (omega arith)).0);
-      line_places = lines;
-      line_rest = from_each zero_line (shop_count self) self.lines (record { count = 0; slips = [] }) (λ p a b. (zeros p a (omega arith)).1);
-      sums = eqb-true _ _ T.sums;
-      lined = line;
-      own_mark = (own-kept _ _ T.own_shop).mark;
-      issued = (own-kept _ _ T.own_shop).most;
-      issued_own = (own-kept _ _ T.own_shop).next;
-    }
-  where
-    R : RegisterLegal self.register
-    R = register-legal self.register T.register
+  -- there are at most sixteen shops, and the own one is among them
+  pub few-shops : n ≤ 16
+  few-shops = R.fits.most
 
-    zeros : (p : ℕ) → shop_count self ≤ p → p < 16 → (zero_shop (shop_at self p) ≡ true) × (zero_line (line_at self p) ≡ true)
-    zeros p a b = both (zero_shop (shop_at self p)) (zero_line (line_at self p)) (sym (shop-unused (shop_count self) p (shop_at self p) (line_at self p) a) ∙ T.kept p b)
+  pub own-below : position self.register self.register.own < n
+  own-below = below self.register self.register.own R R.own
 
-    line : (p : ℕ) → p < shop_count self → Lined self p
-    line p h =
-        let k = both (numbers_kept (line_at self p).count (shop_at self p)) _ (sym (shop-used (shop_count self) p (shop_at self p) (line_at self p) h) ∙ T.kept p (omega (arith, R.fits.most))) in
-        kept-lined self R p h (numbers-kept _ _ k.0) (line_kept_lem _ _ _ _ k.1)
+  module _ (shops : length self.shops ≡ 16) (lines : length self.lines ≡ 16) where
+    balances-sum : sum_by (λ (s : Shop). s.balance) (take n self.shops) ≡ sum_to n (λ p. (shop_at self p).balance)
+    balances-sum = sum-front (λ (s : Shop). s.balance) n self.shops no_shop (omega (arith, few-shops))
 
--- ---- the tests, in the order in which they are made
+    openings-sum : sum_by opening (take n self.register.shops) ≡ sum_to n (λ p. opening (listed_at self.register p))
+    openings-sum = sum-front opening n self.register.shops _ (omega (arith, few-shops, R.fits.places))
 
-module _ (self : Replica) where
-  -- the register is not legal
-  pub register-broken : (n : ℕ) → n ≡ register_answer self.register → (n ≡ 0 → ⊥) → false ≡ lawful self
-  register-broken n e h = fails _ (λ l. h (e ∙ (lawful-tested self l).register))
+    used-shops : length (take n self.shops) ≡ n
+    used-shops = length-take-le n self.shops (omega (arith, few-shops))
 
-  -- the own shop is not as it must be
-  pub own-broken : (p : ℕ) → p ≡ own self → (t : Bool) → t ≡ own_kept self.issued (shop_at self p) → not t ≡ true → false ≡ lawful self
-  own-broken p at t e h = fails _ (λ l. clash _ _ (e ∙ ap (λ (q : ℕ). own_kept self.issued (shop_at self q)) at) (not-true t h) (lawful-tested self l).own_shop)
+    -- a shop and its line, however they are read
+    read : (p : ℕ) (s : Shop) (l : Line) → p < n → (get_or (take n self.shops) p s ≡ shop_at self p) × (get_or (take n self.lines) p l ≡ line_at self p)
+    read p s l h =
+        (get_or-take n self.shops p s h ∙ get_or_default self.shops p s _ (omega (arith, few-shops)), get_or-take n self.lines p l h ∙ get_or_default self.lines p l _ (omega (arith, few-shops)))
 
-  -- the balances do not add up
-  pub sums-broken : (t : Bool) → t ≡ balanced self.register self.shops → not t ≡ true → false ≡ lawful self
-  sums-broken t e h = fails _ (λ l. clash _ _ e (not-true t h) (lawful-tested self l).sums)
+    lawful-kept : lawful self ≡ true → RecordKept self
+    lawful-kept e =
+        let P = parts self e in
+        record {
+          own_shop = record { mark = P.own_mark; most = P.issued; next = P.issued_own };
+          sums = balances-sum ∙ P.sums ∙ sym openings-sum;
+          kept = λ p s l h.
+              let q : p < n = omega (arith, used-shops) in
+              let r = read p s l q in
+              subst (λ m. ShopKept p m (get_or (take n self.shops) p s) (get_or (take n self.lines) p l)) (sym used-shops) (subst₂ (ShopKept p n) (sym r.0) (sym r.1) (lined-kept self R p q (P.lined p q)));
+          unused_shops = λ k d h. zero-shop _ (all-at zero_shop (drop n self.shops) d k P.shop_rest h);
+          unused_lines = λ k d h. blank-line _ (all-at zero_line (drop n self.lines) d k P.line_rest h);
+        }
 
-  -- a shop or its line is not as it must be
-  pub shop-broken : (p : ℕ) → p < 16 → (t : Bool) → t ≡ shop_kept (shop_count self) p (shop_at self p) (line_at self p) → not t ≡ true → false ≡ lawful self
-  shop-broken p h t e y = fails _ (λ l. clash _ _ e (not-true t y) ((lawful-tested self l).kept p h))
+    kept-lawful : RecordKept self → lawful self ≡ true
+    kept-lawful K =
+        whole self record {
+          register = legal;
+          shop_places = shops;
+          shop_rest = at_all zero_shop (drop n self.shops) no_shop (λ k h. ap zero_shop (K.unused_shops k no_shop h));
+          line_places = lines;
+          line_rest = at_all zero_line (drop n self.lines) no_line (λ k h. ap zero_line (K.unused_lines k no_line h) ∙ zero-line);
+          sums = sym balances-sum ∙ K.sums ∙ openings-sum;
+          lined = λ p h.
+              let r = read p no_shop (line_at self p) h in
+              kept-lined self R p h (subst (λ m. ShopKept p m (shop_at self p) (line_at self p)) used-shops (subst₂ (ShopKept p (length (take n self.shops))) r.0 r.1 (K.kept p no_shop (line_at self p) (omega (arith, used-shops)))));
+          own_mark = K.own_shop.mark;
+          issued = K.own_shop.most;
+          issued_own = K.own_shop.next;
+        }
 
-  module _ (n : ℕ) (e : n ≡ register_answer self.register) (z : n ≡ 0) where
-    -- a legal register has at most sixteen shops
-    pub few-shops : shop_count self ≤ 16
-    few-shops = (register-legal self.register (sym e ∙ z)).fits.most
+    -- the test of the record decides, where the register is legal
+    pub lawful-rest : (t : Bool) → Decides t (RecordKept self) → t ≡ lawful self
+    lawful-rest t d = same_from_decides t (lawful self) d (lawful-kept, kept-lawful)
 
-    -- its own shop has a place
-    pub own-sixteen : (p : ℕ) → p ≡ own self → p < 16
-    own-sixteen p at = let R = register-legal self.register (sym e ∙ z) in omega (arith, few-shops, below self.register self.register.own R R.own)
-
--- the register, the own shop and the balances are as they must be, and so are the shops before p
-pub record TestedTo (self : Replica) (p : ℕ) : Type 0 where
-  pub register : register_answer self.register ≡ 0
-  pub own_shop : own_kept self.issued (shop_at self (own self)) ≡ true
-  pub sums : balanced self.register self.shops ≡ true
-  pub shops : Held (λ q. shop_kept (shop_count self) q (shop_at self q) (line_at self q)) 16 p
-
--- no shop is asked yet
-pub tested-none : (self : Replica) (n : ℕ) → n ≡ register_answer self.register → n ≡ 0 → (p : ℕ) → p ≡ own self → (t : Bool) → t ≡ own_kept self.issued (shop_at self p) → not t ≡ false
-    → (u : Bool) → u ≡ balanced self.register self.shops → not u ≡ false → TestedTo self 0
-tested-none self n e z p at t k y u b w = record {
-  register = sym e ∙ z;
-  own_shop = sym (k ∙ ap (λ (q : ℕ). own_kept self.issued (shop_at self q)) at) ∙ not-false t y;
-  sums = sym b ∙ not-false u w;
-  shops = held_none _ 16;
-}
-
-module _ (self : Replica) (p : ℕ) (T : TestedTo self p) where
-  -- the shop at p is as it must be: one more
-  pub tested-more : p < 16 → (t : Bool) → t ≡ shop_kept (shop_count self) p (shop_at self p) (line_at self p) → not t ≡ false → TestedTo self (p + 1)
-  tested-more h t e y = record { register = T.register; own_shop = T.own_shop; sums = T.sums; shops = held_more T.shops h (sym e ∙ not-false t y) }
-
-  -- none is left
-  pub tested-done : 16 ≤ p → length self.shops ≡ 16 → length self.lines ≡ 16 → true ≡ lawful self
-  tested-done h shops lines = sym (tested-lawful self shops lines record { register = T.register; own_shop = T.own_shop; sums = T.sums; kept = every-at 16 _ (held-done T.shops h) })
+-- a register that is not legal
+pub lawful-not : (self : Replica) → (register_answer self.register ≡ 0 → ⊥) → false ≡ lawful self
+lawful-not self h = fails _ (λ e. h (parts self e).register)

@@ -1,20 +1,15 @@
 -- "Neither of you": whichever order the slips came in, the terminals agree. Each statement of specs/Demand.
 use mathlib.Core.Path.{◌≡◌, sym, ap, ap₂, ◌∙◌, subst, subst₂}
-use mathlib.Core.Bool.{true}
 use mathlib.Core.List.{List, [], ◌++◌, append-nil}
 use Prim.Native.Nat.{ℕ, ◌+◌, ◌≤◌, ◌<◌}
 use native.Mathlib.Omega.{arith}
-use lib.ListN.{length, get_or, replicate, length-append}
+use lib.ListN.{length, get_or, length-append}
 use lib.Seq.{ext_get_or}
-use lib.Dec.{eqb}
 use native.Mathlib.Decide.{dec_lt}
-use borrow.Author.Tests.{eqb-true}
-use Rattle.texts.specs.Bytes.{all_of}
 use Rattle.texts.specs.Register.{opening}
 use Rattle.texts.specs.declared.entry.Entry.{Entry}
 use Rattle.texts.specs.declared.register.Register.{Register}
 use Rattle.texts.specs.declared.slip.Slip.{Slip}
-use Rattle.texts.proofs.Steps.{both, all-zeros}
 use Rattle.replica.specs.declared.record.Waiting.{Waiting}
 use Rattle.replica.specs.Record.{no_waiting, listed_at, shop_count, shop_at, line_at, waiting_at, sum_to}
 use Rattle.replica.specs.Slips.{waiting_of, slip_at, firsts, waiting_slips}
@@ -31,7 +26,7 @@ use Rattle.replica.proofs.Parts.{Lined, parts}
 use Rattle.replica.proofs.Most.{balance-most}
 use Rattle.replica.proofs.Amounts.{paid-append, taken-most}
 use Rattle.replica.proofs.Back.{waiting-held}
-use Rattle.replica.proofs.Kept.{waiting_none}
+use Rattle.replica.proofs.Kept.{blank-waiting}
 use Rattle.replica.proofs.ByPosition.{each_from}
 
 -- ---- one terminal
@@ -109,15 +104,6 @@ arrival-order-does-not-matter a b same pre =
     least a (took_of b) (applied_of b) pre
     (λ p h. applied-are-first b p (omega (arith, same.count)))
     (subst₂ (λ (n : ℕ) (us : List Entry). Settled (trade n us) (took_of b) (applied_of b)) (sym same.count) (sym same.shops) (settled b))
-
--- an unused place of a line
-blank-waiting : (w : Waiting) → zero_waiting w ≡ true → w ≡ no_waiting
-blank-waiting w e =
-    let Z = waiting_none w e in
-    let a = both (eqb (length w.needs) 16) (all_of (eqb 0) w.needs) Z.needs in
-    let n : w.needs ≡ replicate 16 0 =
-    all-zeros 0 (eqb 0) (λ x d. sym (eqb-true 0 x d)) w.needs a.1 ∙ ap (λ (k : ℕ). replicate k 0) (eqb-true (length w.needs) 16 a.0) in
-    λ i. record { payer = Z.payer i; number = Z.number i; payee = Z.payee i; amount = Z.amount i; needs = n i }
 
 -- a slip by position rests on the shops alone
 same-waiting : (r r' : Register) (x : Slip) → r.count ≡ r'.count → r.shops ≡ r'.shops → waiting_of r x ≡ waiting_of r' x

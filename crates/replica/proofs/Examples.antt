@@ -14,7 +14,7 @@ use Rattle.texts.specs.Register.{register_layout, register_in, place, twins, reg
 use Rattle.texts.specs.Slip.{slip_layout, slip_in, slip_read}
 use Rattle.replica.specs.declared.record.Shop.{Shop}
 use Rattle.replica.specs.declared.record.Replica.{Replica}
-use Rattle.replica.specs.declared.outcome.Outcome.{Outcome}
+use Rattle.replica.specs.Outcome.{Outcome}
 use Rattle.replica.specs.Record.{shop_count, adjust, sum_to, every, no_replica}
 use Rattle.replica.specs.Slips.{number_for, waiting_of, deps_from, slip_of}
 use Rattle.replica.specs.Checks.{range?, shop?, rising, deps?, passes}

@@ -1,6 +1,6 @@
 -- The loops of settling: the scan for the first ready slip, and one slip applied after the other.
 use mathlib.Core.Path.{◌≡◌, refl, sym, ap, ap₂, ◌∙◌, subst}
-use mathlib.Core.Bool.{Bool, true, false, ◌&&◌}
+use mathlib.Core.Bool.{true, false}
 use mathlib.Core.List.{List, [], ◌∷◌, ◌++◌, append_assoc, append-nil}
 use Prim.Native.Nat.{ℕ, suc, ◌+◌, ◌≤◌, ◌<◌}
 use native.Mathlib.Omega.{arith}
@@ -8,18 +8,17 @@ use native.Mathlib.Nat.{le_trans, mul-le-mul_right}
 use lib.Dec.{ltb}
 use lib.ListN.{length, drop, set, length-append, length-set}
 use lib.Seq.{drop-cons, set_at}
-use borrow.Author.Tests.{lt-ltb, le-ltb}
+use borrow.Author.Tests.{ltb-true}
+use Rattle.texts.proofs.Steps.{both}
 use Rattle.texts.specs.Written.{over}
 use Rattle.texts.proofs.Legal.{register-legal}
 use Rattle.replica.specs.declared.record.Shop.{Shop}
-use Rattle.replica.specs.declared.record.Line.{Line}
 use Rattle.replica.specs.declared.record.Replica.{Replica}
-use Rattle.replica.specs.declared.outcome.Outcome.{Outcome}
 use Rattle.replica.specs.Record.{shop_count, own, line_at}
 use Rattle.replica.specs.State.{lawful}
-use Rattle.replica.specs.Settle.{first_waiting, ready, apply, without_first, NoneReady, Settles, waits, settled, applying}
+use Rattle.replica.specs.Settle.{first_waiting, ready, apply, NoneReady, Settles, waits, settled, applying}
 use Rattle.replica.specs.Outcome.{did}
-use Rattle.replica.specs.Inside.{needs_applied, slip_ready, Movable, moved_funds}
+use Rattle.replica.specs.Inside.{Movable}
 use Rattle.replica.proofs.Sums.{either}
 use Rattle.replica.proofs.Answered.{Gives}
 use Rattle.replica.proofs.Quiet.{apply-count, fewer}
@@ -27,26 +26,6 @@ use Rattle.replica.proofs.Settling.{settles-so, settles-only-so}
 use Rattle.replica.proofs.Parts.{parts}
 use Rattle.replica.proofs.Most.{sum-most, balance-most}
 use Rattle.replica.proofs.Applied.{ready-funds, below, other, payee, apply-lawful}
-
--- ---- ready, as the code asks it
-
-module _ (self : Replica) (p : ℕ) where
-  pub ready-is : ready self p ≡ ltb 0 (line_at self p).count && slip_ready self.shops (shop_count self) p (first_waiting self p)
-  unfolding ready slip_ready needs_applied
-  ready-is = refl
-
-  -- nothing waits there
-  pub not-waiting : (line_at self p).count ≡ 0 → ready self p ≡ false
-  not-waiting h = ready-is ∙ ap (λ b. b && slip_ready self.shops (shop_count self) p (first_waiting self p)) (le-ltb 0 (line_at self p).count (omega (arith, h)))
-
-  -- its first slip decides
-  pub first-decides : (n : ℕ) (t u : Bool) → n ≡ shop_count self → ((line_at self p).count ≡ 0 → ⊥) → t ≡ slip_ready self.shops n p (first_waiting self p) → t ≡ u → ready self p ≡ u
-  first-decides n t u e h s v =
-      ready-is ∙ ap (λ b. b && slip_ready self.shops (shop_count self) p (first_waiting self p)) (lt-ltb 0 (line_at self p).count (waiting h))
-      ∙ ap (λ m. slip_ready self.shops m p (first_waiting self p)) (sym e) ∙ sym s ∙ v
-    where
-      waiting : ((line_at self p).count ≡ 0 → ⊥) → 0 < (line_at self p).count
-      waiting h = omega (arith, h)
 
 -- Of n shops those before p have no ready slip.
 pub record Scanned (self : Replica) (n p : ℕ) : Type 0 where
@@ -114,6 +93,12 @@ going-none lent start at l e h = record {
   bytes = refl;
 }
 
+-- In a scan that began at a state: nothing is applied yet, and the shops before p have no ready slip.
+pub record Scanning (lent : List ℕ) (start : Replica) (n at : ℕ) (list : List ℕ) (begun self : Replica) (done p : ℕ) : Type 0 where
+  pub going : Going lent start n at list self done
+  pub scanned : Scanned self n p
+  pub same : self ≡ begun
+
 module _ {lent : List ℕ} {start : Replica} {n at : ℕ} {list : List ℕ} {self : Replica} {done : ℕ} (G : Going lent start n at list self done) where
   -- the shops can move a ready slip's amount
   pub going-movable : (p : ℕ) → p < n → ready self p ≡ true → Movable self.shops p (first_waiting self p)
@@ -134,6 +119,11 @@ module _ {lent : List ℕ} {start : Replica} {n at : ℕ} {list : List ℕ} {sel
     where
       still : (first_waiting self p).payee < shop_count self → (first_waiting self p).payee < shop_count (apply self p)
       still b = subst (λ (k : ℕ). (first_waiting self p).payee < k) (sym (apply-count self p)) b
+
+  -- a slip waits there
+  pub going-waits : (p : ℕ) → ready self p ≡ true → 0 < (line_at self p).count
+  unfolding ready
+  going-waits p e = ltb-true 0 (line_at self p).count (both (ltb 0 (line_at self p).count) _ e).0
 
   -- no more than eight wait there
   pub going-eight : (p : ℕ) → p < n → (line_at self p).count ≤ 8
@@ -180,22 +170,8 @@ module _ {lent : List ℕ} {start : Replica} {n at : ℕ} {list : List ℕ} {sel
 
   -- no shop is ready any more
   pub going_done : (p : ℕ) → n ≤ p → Scanned self n p
-      → (o : Outcome) → o ≡ did done self → Gives o (did (length (applying start)) (settled start)) list (over (applying start) lent)
-  going_done p h Z r i =
+      → Gives (did done self) (did (length (applying start)) (settled start)) list (over (applying start) lent)
+  going_done p h Z =
       let S = stopped self (λ q l. Z.none q (omega (arith, G.count))) in
       let o : G.sofar ≡ applying start = sym (append-nil G.sofar) ∙ ap (λ x. G.sofar ++ x) S.0 ∙ G.order in
-      record { outcome = i ∙ ap₂ (λ (k : ℕ) (x : Replica). did k x) (sym G.made ∙ ap length o) (S.1 ∙ G.state); lent = G.bytes ∙ ap (λ x. over x lent) o }
-
--- ---- apply, as the code does it
-
-pub applied-is : (self : Replica) (at p : ℕ) (shops : List Shop) (line : Line) → at ≡ own self → shops ≡ moved_funds at p (first_waiting self p) self.shops
-    → line ≡ without_first (line_at self p)
-    → ◌≡◌ {A = Replica} (record { register = self.register; issued = self.issued; shops = shops; lines = set self.lines p line }) (apply self p)
-unfolding apply moved_funds
-applied-is self at p shops line a s l =
-    λ i. record {
-      register = self.register;
-      issued = self.issued;
-      shops = (s ∙ ap (λ k. moved_funds k p (first_waiting self p) self.shops) a) i;
-      lines = set self.lines p (l i);
-    }
+      record { outcome = ap₂ (λ (k : ℕ) (x : Replica). did k x) (sym G.made ∙ ap length o) (S.1 ∙ G.state); bytes = G.bytes ∙ ap (λ x. over x lent) o }

@@ -1,38 +1,40 @@
--- Issuing and asking a balance, step by step: what is asked, the marks set to 0, the marks as dependencies, what is answered and written.
-use mathlib.Core.Path.{◌≡◌, refl, sym, ap, ap₂, ◌∙◌}
+-- Issuing and asking a balance, step by step: what is asked, the marks as dependencies, what is answered and written.
+use mathlib.Core.Path.{◌≡◌, refl, sym, ap, ap₂, ◌∙◌, subst}
 use mathlib.Core.Bool.{Bool, true, false, not, ◌||◌, or-true}
-use mathlib.Core.List.{List, [], ◌∷◌, ◌++◌, map, map-append, append-nil}
+use mathlib.Core.List.{List, [], ◌∷◌, ◌++◌, map, append-nil}
 use Prim.Native.Nat.{ℕ, zero, suc, ◌+◌, ◌-◌, ◌≤◌, ◌<◌, min}
 use native.Mathlib.Omega.{arith}
 use native.Mathlib.Numerals.{add-one}
-use lib.ListN.{length, take, drop, get_or, set, replicate, length-map, length-append, length-take, take-append-drop, drop_of_length-le, get_or-map}
-use lib.Seq.{take-suc, take_all, length-take-le, append_snoc, set_at, get_or_at}
+use lib.ListN.{length, take, drop, get_or, set, replicate, length-map, length-append, length-take, take-append-drop, get_or-map}
+use lib.Seq.{take-suc, take_all, length-take-le, append_snoc, set_at}
 use lib.Dec.{ltb, eqb}
 use borrow.Author.Tests.{lt-ltb, le-ltb, eq-eqb, ne_eqb, eqb-false, ltb-false, not-false}
-use Rattle.texts.specs.Answers.{Meaning, answer_of}
+use Rattle.std.proofs.Common.{Result, Ok, Err}
+use Rattle.texts.specs.Answers.{Meaning, answer_of, refusal_number}
 use Rattle.texts.specs.Code.{same_code, code_of}
 use Rattle.texts.specs.Entries.{no_entry}
 use Rattle.texts.specs.Register.{position, listed}
-use Rattle.texts.specs.Slip.{slip_write_answer, slip_written, slip_buffer}
-use Rattle.texts.specs.Written.{over}
+use Rattle.texts.specs.Slip.{slip_write_answer, slip_written, slip_buffer, no_slip}
+use Rattle.texts.specs.Written.{Written, written, over, answered}
+use Rattle.texts.specs.declared.answers.Refusal.{Refusal}
+use Rattle.texts.specs.declared.answers.Refusal.TheVariants.{Room, State}
 use Rattle.texts.specs.declared.code.Code.{Code}
 use Rattle.texts.specs.declared.entry.Entry.{Entry}
 use Rattle.texts.specs.declared.register.Register.{Register}
 use Rattle.texts.specs.declared.slip.Slip.{Slip}
-use Rattle.texts.specs.declared.pen.Written.{Written}
+use Rattle.texts.proofs.Refusals.{not-done}
 use Rattle.texts.proofs.Firsts.{first-zero, no_rows, applies, passes-by}
 use Rattle.texts.proofs.Steps.{neither, nor}
 use Rattle.texts.proofs.WritingTexts.{slip-zero, slip-put}
 use Rattle.texts.proofs.Legal.{register-legal}
-use Rattle.texts.proofs.Values.{left-of}
 use Rattle.replica.specs.declared.record.Shop.{Shop}
 use Rattle.replica.specs.declared.record.Replica.{Replica}
+use Rattle.replica.specs.declared.reply.Reply.{Reply}
 use Rattle.replica.specs.declared.issue.Own.{Own}
-use Rattle.replica.specs.declared.outcome.Outcome.{Outcome}
 use Rattle.replica.specs.Record.{no_shop, own, shop_at, line_at}
 use Rattle.replica.specs.Slips.{deps_from, slip_with}
 use Rattle.replica.specs.State.{lawful}
-use Rattle.replica.specs.Outcome.{refused, did}
+use Rattle.replica.specs.Outcome.{Outcome, refused, did, count_said, balance_said, turned_away}
 use Rattle.replica.specs.Issue.{own_shop, busy?, unmarked, issue_rows, issue_answer, issued_slip, issued_text, issuing, issued, issued_buffer}
 use Rattle.replica.specs.Balance.{balance_rows, asked}
 use Rattle.replica.specs.Inside.{marks_of, ask_rows}
@@ -110,41 +112,6 @@ module _ (r : Register) (s : Shop) (waits issued : ℕ) (payee : Code) (amount :
               pub ask-ok : amount ≤ s.balance → 0 ≡ ask_from 0 r s waits issued payee amount
               ask-ok h = past-last 0 (sym (passes-by Meaning.short _ _ (le-ltb s.balance amount h) ∙ no_rows))
 
--- ---- an array changed place by place
-
--- the first i places of xs are changed, the others are as they were
-pub record Changed {A : Type 0} (f : A → A) (xs ys : List A) (i : ℕ) : Type 0 where
-  pub within : i ≤ length xs
-  pub holds : ys ≡ map f (take i xs) ++ drop i xs
-
--- none is changed yet
-pub changed-none : {A : Type 0} (f : A → A) (xs : List A) → Changed f xs xs 0
-changed-none f xs = record { within = omega arith; holds = refl }
-
-module _ {A : Type 0} {f : A → A} {xs ys : List A} {i : ℕ} (c : Changed f xs ys i) where
-  -- the place at i is changed: one more
-  pub changed-more : (z : A) → i < length xs → Changed f xs (set ys i (f (get_or ys i z))) (i + 1)
-  changed-more z h =
-      let front : List A = map f (take i xs) in
-      let rest : List A = drop (i + 1) xs in
-      let x : A = get_or xs i z in
-      let size : length front ≡ i = length-map (take i xs) f ∙ length-take-le i xs c.within in
-      let here : ys ≡ front ++ (x ∷ rest) = c.holds ∙ ap (λ l. front ++ l) (left-of xs i z h) in
-      let at : get_or ys i z ≡ x = ap (λ l. get_or l i z) here ∙ get_or_at front x rest z i size in
-      let more : take (i + 1) xs ≡ take i xs ++ (x ∷ []) = rw (add-one, take-suc xs i z) in
-      record {
-        within = omega arith;
-        holds =
-            ap (λ l. set l i (f (get_or ys i z))) here
-            ∙ set_at front x rest (f (get_or ys i z)) i size
-            ∙ ap (λ a. front ++ (f a ∷ rest)) at
-            ∙ sym (ap (λ l. map f l ++ rest) more ∙ ap (λ l. l ++ rest) (map-append f (take i xs) (x ∷ [])) ∙ append_snoc front (f x) rest);
-      }
-
-  -- no place is left
-  pub changed-done : length xs ≤ i → ys ≡ map f xs
-  changed-done h = c.holds ∙ ap₂ (λ a b. map f a ++ b) (take_all i xs h) (drop_of_length-le xs h) ∙ append-nil (map f xs)
-
 -- ---- marks as dependencies
 
 -- shops with their numbers, and further shops with theirs
@@ -193,10 +160,10 @@ pub record Marked (us : List Entry) (ss : List Shop) (ds : List Entry) (count i 
   pub holds : ds ≡ first_deps us (marks_of ss) i ++ replicate (16 - count) no_entry
 
 -- no shop is asked yet
-pub marked-none : (us : List Entry) (ss : List Shop) (ds : List Entry) → length us ≡ 16 → length ss ≡ 16 → length (deps_from us (marks_of ss)) ≤ 15 → ds ≡ replicate 16 no_entry
-    → Marked us ss ds 0 0
+pub marked-none : (us : List Entry) (ss : List Shop) (s : Slip) → length us ≡ 16 → length ss ≡ 16 → length (deps_from us (marks_of ss)) ≤ 15 → s ≡ no_slip → Marked us ss s.deps s.count 0
 unfolding deps_from
-marked-none us ss ds h l m e = record { listed = h; shops = l; most = m; within = omega arith; size = refl; holds = e }
+marked-none us ss s h l m e =
+    subst (λ (x : Slip). Marked us ss x.deps x.count 0) (sym e) record { listed = h; shops = l; most = m; within = omega arith; size = refl; holds = refl }
 
 module _ {us : List Entry} {ss : List Shop} {ds : List Entry} {count i : ℕ} (m : Marked us ss ds count i) where
   -- as many marks as shops
@@ -309,46 +276,52 @@ is_lawful self l e h = sym e ∙ not-false l h
 
 -- ---- what issuing answers and writes
 
+-- a call that gives what a write gave, where that is done
+did-written : (w : Result ℕ Refusal) (count : ℕ) (self : Replica) → written w ≡ record { answer = 0; count = count } → count_said (record { answer = w; replica = self }) ≡ did count self
+did-written (Ok n) count self e = ap (λ (x : Written). did x.count self) e
+did-written (Err refusal) count self e = absurd (not-done refusal (ap (λ (x : Written). x.answer) e))
+
 module _ (self : Replica) (payee : List ℕ) (amount : ℕ) (buffer : List ℕ) where
   -- a refusal: the state and the bytes are as they were
   issue-refused : (n : ℕ) → issue_answer self payee amount buffer ≡ n → (n ≡ 0 → ⊥) → (o : Outcome) → o ≡ refused n self
       → Gives o (issued self payee amount buffer) buffer (issued_buffer self payee amount buffer)
   unfolding issued issued_buffer
   issue-refused zero e h o i = absurd (h refl)
-  issue-refused (suc n) e h o i = record { outcome = i ∙ sym (rw (e, issued)); lent = sym (rw (e, issued_buffer)) }
+  issue-refused (suc n) e h o i = record { outcome = i ∙ sym (rw (e, issued)); bytes = sym (rw (e, issued_buffer)) }
 
   -- the state breaks the rule: 13
-  pub issue-state : (l : Bool) → l ≡ lawful self → not l ≡ true → (o : Outcome) → o ≡ refused 13 self
-      → Gives o (issued self payee amount buffer) buffer (issued_buffer self payee amount buffer)
+  pub issue-state : (l : Bool) → l ≡ lawful self → not l ≡ true → (o : Reply ℕ) → o ≡ turned_away State self
+      → Gives (count_said o) (issued self payee amount buffer) buffer (issued_buffer self payee amount buffer)
   unfolding issue_rows
-  issue-state l e h o i = issue-refused 13 (applies Meaning.state _ _ (ap not (sym e) ∙ h)) (λ z. omega arith) o i
+  issue-state l e h o i = issue-refused 13 (applies Meaning.state _ _ (ap not (sym e) ∙ h)) (λ z. omega arith) _ (ap count_said i)
 
   module _ (law : lawful self ≡ true) where
     -- the buffer is too small: 11
-    pub issue-room : length buffer < 366 → (o : Outcome) → o ≡ refused 11 self → Gives o (issued self payee amount buffer) buffer (issued_buffer self payee amount buffer)
+    pub issue-room : length buffer < 366 → (o : Reply ℕ) → o ≡ turned_away Room self
+        → Gives (count_said o) (issued self payee amount buffer) buffer (issued_buffer self payee amount buffer)
     unfolding issue_rows
     issue-room h o i =
-        issue-refused 11 (passes-by Meaning.state _ _ (ap not law) ∙ applies Meaning.room _ _ (lt-ltb (length buffer) 366 h)) (λ z. omega arith) o i
+        issue-refused 11 (passes-by Meaning.state _ _ (ap not law) ∙ applies Meaning.room _ _ (lt-ltb (length buffer) 366 h)) (λ z. omega arith) _ (ap count_said i)
 
     module _ (room : 366 ≤ length buffer) (mine : Own) (ours : (mine.shop ≡ own_shop self) × (mine.waits ≡ (line_at self (own self)).count) × (mine.issued ≡ self.issued))
-        (code : Code) (is_code : code ≡ code_of payee) (n : ℕ) (e : n ≡ answer_of (ask_rows self.register mine.shop mine.waits mine.issued code amount)) where
+        (code : Code) (is_code : code ≡ code_of payee) where
       -- the other rows decide
-      issue-asked : issue_answer self payee amount buffer ≡ n
+      issue-asked : issue_answer self payee amount buffer ≡ answer_of (ask_rows self.register mine.shop mine.waits mine.issued code amount)
       unfolding issue_rows
       issue-asked =
           passes-by Meaning.state _ _ (ap not law) ∙ passes-by Meaning.room _ _ (le-ltb (length buffer) 366 room)
-          ∙ sym (e
-          ∙ ap₂ (λ (x : Shop) (y : ℕ). answer_of (ask_rows self.register x y mine.issued code amount)) ours.0 ours.1
+          ∙ sym (ap₂ (λ (x : Shop) (y : ℕ). answer_of (ask_rows self.register x y mine.issued code amount)) ours.0 ours.1
           ∙ ap₂ (λ (x : ℕ) (y : Code). answer_of (ask_rows self.register (own_shop self) (line_at self (own self)).count x y amount)) ours.2 is_code)
 
       -- one of them applies
-      pub issue-answered : (n ≡ 0 → ⊥) → (o : Outcome) → o ≡ refused n self → Gives o (issued self payee amount buffer) buffer (issued_buffer self payee amount buffer)
-      issue-answered h o i = issue-refused n issue-asked h o i
+      pub issue-answered : (refusal : Refusal) (o : Reply ℕ) → refusal_number refusal ≡ answer_of (ask_rows self.register mine.shop mine.waits mine.issued code amount) → o ≡ turned_away refusal self
+          → Gives (count_said o) (issued self payee amount buffer) buffer (issued_buffer self payee amount buffer)
+      issue-answered refusal o e i = issue-refused _ (issue-asked ∙ sym e) (not-done refusal) _ (ap count_said i)
 
-      module _ (ok : n ≡ 0) where
+      module _ (ok : 0 ≡ answer_of (ask_rows self.register mine.shop mine.waits mine.issued code amount)) where
         -- issuing answers 0
         answer-zero : issue_answer self payee amount buffer ≡ 0
-        answer-zero = issue-asked ∙ ok
+        answer-zero = issue-asked ∙ sym ok
 
         -- the slip is legal, so it can be written
         slip-written : slip_write_answer (issued_slip self payee amount) buffer ≡ 0
@@ -374,18 +347,22 @@ module _ (self : Replica) (payee : List ℕ) (amount : ℕ) (buffer : List ℕ) 
           is-slip = is ∙ ap₂ (λ (x : Shop) (y : Code). slip_with self.register.own (x.applied + 1) y amount (deps_from self.register.shops (marks_of self.shops))) ours.0 is_code
 
           -- issued: the slip is written, its number is kept, the marks are 0
-          pub issue-done : (w : Written) (after : List ℕ) (shops : List Shop) → w ≡ slip_written s buffer → after ≡ slip_buffer s buffer → shops ≡ map unmarked self.shops → (o : Outcome)
-              → o ≡ did w.count (record { register = self.register; issued = mine.shop.applied + 1; shops = shops; lines = self.lines }) → Gives o (issued self payee amount buffer)
-              after (issued_buffer self payee amount buffer)
-          unfolding issued issued_buffer issuing
-          issue-done w after shops i j k o e =
+          pub issue-done : (w : Result ℕ Refusal) (after : List ℕ) (shops : List Shop) → written w ≡ slip_written s buffer → after ≡ slip_buffer s buffer → shops ≡ map unmarked self.shops
+              → Gives (count_said (record { answer = w; replica = record { register = self.register; issued = mine.shop.applied + 1; shops = shops; lines = self.lines } }))
+              (issued self payee amount buffer) after (issued_buffer self payee amount buffer)
+          unfolding issued issued_buffer issuing answered
+          issue-done w after shops i j k =
               let text : List ℕ = issued_text self payee amount in
-              let count : w.count ≡ length text =
-              ap (λ (x : Written). x.count) (i ∙ ap (λ x. slip_written x buffer) is-slip) ∙ (slip-put (issued_slip self payee amount) buffer slip-written).0 in
-              let bytes : after ≡ over text buffer = j ∙ ap (λ x. slip_buffer x buffer) is-slip ∙ (slip-put (issued_slip self payee amount) buffer slip-written).1 in
+              let put = slip-put (issued_slip self payee amount) buffer slip-written in
+              let said : written w ≡ record { answer = 0; count = length text } =
+              i ∙ ap (λ x. slip_written x buffer) is-slip ∙ ap₂ (λ (a n : ℕ). record { answer = a; count = n }) slip-written put.0 in
+              let bytes : after ≡ over text buffer = j ∙ ap (λ x. slip_buffer x buffer) is-slip ∙ put.1 in
               let then : record { register = self.register; issued = mine.shop.applied + 1; shops = shops; lines = self.lines } ≡ issuing self =
               ap₂ (λ (x : Shop) (l : List Shop). record { register = self.register; issued = x.applied + 1; shops = l; lines = self.lines }) ours.0 k in
-              record { outcome = e ∙ ap₂ (λ n r. did n r) count then ∙ sym (rw (answer-zero, issued)); lent = bytes ∙ sym (rw (answer-zero, issued_buffer)) }
+              record {
+                outcome = did-written w _ _ said ∙ ap (did (length text)) then ∙ sym (rw (answer-zero, issued));
+                bytes = bytes ∙ sym (rw (answer-zero, issued_buffer));
+              }
 
 -- ---- what asking a balance answers
 
@@ -397,9 +374,9 @@ module _ (self : Replica) (code : List ℕ) where
   balance-refused (suc n) e h o i = i ∙ sym (rw (sym e, asked))
 
   -- the state breaks the rule: 13
-  pub balance-state : (l : Bool) → l ≡ lawful self → not l ≡ true → (o : Outcome) → o ≡ refused 13 self → o ≡ asked self code
+  pub balance-state : (l : Bool) → l ≡ lawful self → not l ≡ true → (o : Reply ℕ) → o ≡ turned_away State self → balance_said o ≡ asked self code
   unfolding balance_rows
-  balance-state l e h o i = balance-refused 13 (sym (applies Meaning.state _ _ (ap not (sym e) ∙ h))) (λ z. omega arith) o i
+  balance-state l e h o i = balance-refused 13 (sym (applies Meaning.state _ _ (ap not (sym e) ∙ h))) (λ z. omega arith) _ (ap balance_said i)
 
   module _ (law : lawful self ≡ true) (c : Code) (is_code : c ≡ code_of code) (t : Bool) (e : t ≡ listed self.register c) where
     -- the test of the code, as the row makes it
@@ -407,10 +384,10 @@ module _ (self : Replica) (code : List ℕ) where
     is-listed = ap (listed self.register) (sym is_code) ∙ sym e
 
     -- the code is not listed: 2
-    pub balance-shop : t ≡ false → (o : Outcome) → o ≡ refused 2 self → o ≡ asked self code
+    pub balance-shop : t ≡ false → (o : Reply ℕ) → o ≡ turned_away Refusal.Shop self → balance_said o ≡ asked self code
     unfolding balance_rows
     balance-shop h o i =
-        balance-refused 2 (sym (passes-by Meaning.state _ _ (ap not law) ∙ applies Meaning.shop _ _ (ap not (is-listed ∙ h)))) (λ z. omega arith) o i
+        balance-refused 2 (sym (passes-by Meaning.state _ _ (ap not law) ∙ applies Meaning.shop _ _ (ap not (is-listed ∙ h)))) (λ z. omega arith) _ (ap balance_said i)
 
     -- it is: its position is a place of the shops
     pub balance-place : t ≡ true → (p : ℕ) → p ≡ position self.register c → p < 16

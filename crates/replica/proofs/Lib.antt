@@ -14,10 +14,10 @@ pub mod Taken
 pub mod Refusals
 pub mod Issued
 pub mod IssuedSlip
-pub mod Everywhere
 pub mod Steps
 pub mod Going
 pub mod Checked
+pub mod Mapped
 pub mod Answered
 pub mod Taking
 pub mod Issuing

@@ -36,7 +36,7 @@ drop-replicate i n x t e = all_drop t i (replicate n x) (zeros-all x t e n)
 pub zero-waiting : zero_waiting no_waiting ≡ true
 zero-waiting = zeros-all 0 (eqb 0) refl 16
 
-zero-line : zero_line no_line ≡ true
+pub zero-line : zero_line no_line ≡ true
 zero-line = zeros-all no_waiting zero_waiting zero-waiting 8
 
 pub fresh-shop : (r : Register) (p : ℕ) → shop_at (fresh r) p ≡ first_day (listed_at r p)

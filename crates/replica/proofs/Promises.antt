@@ -9,9 +9,9 @@ use borrow.Author.Tests.{eq-eqb, ne_eqb}
 use Rattle.texts.specs.Answers.{answer_of, Row, state}
 use Rattle.texts.specs.Written.{over}
 use Rattle.texts.specs.Register.{register_read}
-use Rattle.texts.specs.declared.register.RegisterRead.{RegisterRead}
+use Rattle.texts.specs.Register.{RegisterRead}
 use Rattle.texts.specs.declared.slip.Slip.{Slip}
-use Rattle.texts.specs.declared.slip.SlipRead.{SlipRead}
+use Rattle.texts.specs.Slip.{SlipRead}
 use Rattle.texts.proofs.Values.{fails}
 use Rattle.texts.proofs.ReadingTexts.{register-alike, slip-alike}
 use lib.Seq.{take-append_seam}
@@ -24,13 +24,12 @@ use Rattle.replica.specs.Bounds.{list_room}
 use Rattle.replica.specs.Record.{no_replica, shop_count, shop_at, sum_to}
 use Rattle.replica.specs.State.{lawful}
 use Rattle.replica.specs.Settle.{ready, apply, Settles, stop, step, settled, applying}
-use Rattle.replica.specs.Outcome.{did, refused}
 use Rattle.replica.specs.Open.{fresh, opened}
 use Rattle.replica.specs.Take.{slip_from, take_rows, take_answer, entered, taken, taken_list}
 use Rattle.replica.specs.Issue.{issue_answer, issued, issued_buffer, issue_rows}
 use Rattle.replica.specs.Promises.{SettlesToTheEnd, times, RisesAsListed, CountAtMost, OpensLawful, TakesLawful, IssuesLawful, AsksSame, TakeRefusalKeeps, IssueRefusalKeeps, Alike, OneToSixAlike, SevenAlike, SlipsComeBack, WaitingComesBack, RefusedGivesZeros, ZerosUnlawful, EmptyRegisterRefused, SameRegisterOpensAlike, SameSlipTakenAlike, TakeOrder, IssueOrder, BalanceOrder, TakeCounts}
 use Rattle.replica.proofs.Sums.{either, sum_same, sum_more}
-use Rattle.replica.specs.declared.outcome.Outcome.{Outcome}
+use Rattle.replica.specs.Outcome.{did, refused, Outcome}
 use Rattle.replica.specs.Balance.{balance_rows, asked}
 use Rattle.replica.specs.Calls.{take, issue, balance, call, ZerosRefused}
 use Rattle.replica.proofs.Quiet.{apply-count}

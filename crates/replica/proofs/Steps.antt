@@ -1,121 +1,118 @@
--- The steps of settling in the small: a line without its first slip, a slip that is ready, the shops when it is applied.
-use mathlib.Core.Path.{◌≡◌, refl, sym, ap, ap₂, ◌∙◌}
-use mathlib.Core.Bool.{Bool, true, false, ◌&&◌, and-false}
-use mathlib.Core.List.{List, [], ◌∷◌, ◌++◌}
-use Prim.Native.Nat.{ℕ, ◌+◌, ◌-◌, ◌≤◌, ◌<◌}
+-- The steps of settling in the small: a slip that is ready, the shops when it is applied.
+use mathlib.Core.Path.{◌≡◌, refl, sym, ap, ap₂, ◌∙◌, subst}
+use mathlib.Core.Bool.{Bool, true, false, ◌&&◌}
+use mathlib.Core.List.{List}
+use Prim.Native.Nat.{ℕ, ◌+◌, ◌≤◌, ◌<◌}
 use native.Mathlib.Omega.{arith}
-use lib.Dec.{leb, eqb}
-use lib.ListN.{length, drop, get_or, set, length-append, length-drop, length-set, get_or-append}
-use lib.Seq.{ext_get_or, get_or-drop, get_or-set_same, get_or-set_other, get_or_at}
-use borrow.Author.Tests.{eq-eqb, ne_eqb, le-leb, lt-leb}
+use lib.Dec.{leb, ltb, eqb}
+use lib.ListN.{length, take, get_or, set}
+use lib.Seq.{length-take-le, get_or-take}
+use borrow.Author.Tests.{eq-eqb, ne_eqb, le-leb, lt-leb, leb-true, lt-ltb, le-ltb}
+use Rattle.std.specs.Bool.{IsTrue, MatchBool}
+use Rattle.std.specs.Prelude.{◌↔◌}
+use Rattle.std.specs.List.{AllWithin, HoldsAt, zip}
+use Rattle.std.proofs.lemmas.Slice.Zip.{length-zip, get_or-zip}
+use Rattle.std.proofs.lemmas.Bool.Decides.{same_from_decides}
 use Rattle.replica.specs.declared.record.Shop.{Shop}
 use Rattle.replica.specs.declared.record.Waiting.{Waiting}
-use Rattle.replica.specs.Record.{no_waiting, no_shop, every}
-use Rattle.replica.specs.Settle.{paying, paid}
-use Rattle.replica.specs.Inside.{needs_applied, slip_ready, Movable, moved_funds}
-use Rattle.replica.proofs.Sums.{either}
-use Rattle.replica.proofs.Everywhere.{every-none, every_more, every-fails, every-done}
-
--- ---- a line without its first slip
-
--- A place past the end, as the checker has it.
-abbrev pub blank : Waiting
-blank = record { payer = 0; number = 0; payee = 0; amount = 0; needs = [] }
-
--- The slips at the places 1 to k - 1 have moved up by one.
-pub record Shifted (old new : List Waiting) (k : ℕ) : Type 0 where
-  pub least : 1 ≤ k
-  pub upto : k ≤ 8
-  pub size : length new ≡ 8
-  pub up : (j : ℕ) → j + 1 < k → get_or new j blank ≡ get_or old (j + 1) blank
-  pub rest : (j : ℕ) → k ≤ j + 1 → get_or new j blank ≡ get_or old j blank
-
-pub shifted_none : (old : List Waiting) → length old ≡ 8 → Shifted old old 1
-shifted_none old e = record { least = omega arith; upto = omega arith; size = e; up = λ j h. absurd (omega arith); rest = λ j h. refl }
-
-pub shifted-more : (old new : List Waiting) (k : ℕ) → Shifted old new k → k < 8 → Shifted old (set new (k - 1) (get_or new k blank)) (k + 1)
-shifted-more old new k S h =
-    let l : k - 1 < length new = omega (arith, S.size, S.least) in
-    record {
-      least = omega arith;
-      upto = omega arith;
-      size = length-set new (k - 1) (get_or new k blank) ∙ S.size;
-      up = λ j m.
-          either j (k - 1)
-          (λ e.
-          let f : j + 1 ≡ k = omega (arith, S.least) in
-          ap (λ i. get_or (set new (k - 1) (get_or new k blank)) i blank) e ∙ get_or-set_same new (k - 1) (get_or new k blank) blank l ∙ S.rest k (omega arith) ∙ ap (λ i. get_or old i blank) (sym f))
-          (λ e. get_or-set_other new (k - 1) j (get_or new k blank) blank e ∙ S.up j (omega (arith, S.least)));
-      rest = λ j m. get_or-set_other new (k - 1) j (get_or new k blank) blank (λ e. omega (arith, S.least)) ∙ S.rest j (omega arith);
-    }
-
-pub shifted-done : (old new : List Waiting) (k : ℕ) (z : Waiting) → z ≡ no_waiting → length old ≡ 8 → 8 ≤ k → Shifted old new k → set new 7 z ≡ drop 1 old ++ (no_waiting ∷ [])
-shifted-done old new k z e size h S =
-    let d : length (drop 1 old) ≡ 7 = length-drop 1 old ∙ omega (arith, size) in
-    ap (set new 7) e ∙ ext_get_or blank (set new 7 no_waiting) (drop 1 old ++ (no_waiting ∷ []))
-    (length-set new 7 no_waiting ∙ S.size ∙ sym (length-append (drop 1 old) (no_waiting ∷ []) ∙ omega (arith, d)))
-    (λ j l.
-    either j 7
-    (λ i. ap (λ m. get_or (set new 7 no_waiting) m blank) i ∙ get_or-set_same new 7 no_waiting blank (omega (arith, S.size)) ∙ sym (ap (λ m. get_or (drop 1 old ++ (no_waiting ∷ [])) m blank) i ∙ get_or_at (drop 1 old) no_waiting [] blank 7 d))
-    (λ i.
-    let m : j < 7 = omega (arith, i, length-set new 7 no_waiting, S.size) in
-    let f : 1 + j ≡ j + 1 = omega arith in
-    get_or-set_other new 7 j no_waiting blank i
-    ∙ S.up j (omega arith)
-    ∙ sym (get_or-append (drop 1 old) (no_waiting ∷ []) blank j (omega (arith, d)) ∙ get_or-drop 1 old j blank ∙ ap (λ n. get_or old n blank) f)))
+use Rattle.replica.specs.declared.record.Line.{Line}
+use Rattle.replica.specs.declared.record.Replica.{Replica}
+use Rattle.replica.specs.Record.{no_shop, shop_count, own, shop_at, line_at}
+use Rattle.replica.specs.Settle.{first_waiting, ready_a, ready_b, ready_c, ready, paying, paid, apply, without_first}
+use Rattle.replica.specs.State.{lawful}
+use Rattle.texts.proofs.Legal.{register-legal}
+use Rattle.replica.proofs.Parts.{parts}
+use Rattle.replica.proofs.Sums.{every-at, at_every}
 
 -- ---- a slip that is ready
 
--- What is asked for at the first i shops is applied there.
-pub record Covered (shops : List Shop) (asked : List ℕ) (i : ℕ) : Type 0 where
-  pub all : every i (λ r. leb (get_or asked r 0) (get_or shops r no_shop).applied) ≡ true
+-- what each shop has applied covers what is asked of it
+abbrev pub Covers : List Shop → List ℕ → Type 0
+Covers shops needs = (r : ℕ) → r < length shops → get_or needs r 0 ≤ (get_or shops r no_shop).applied
 
-pub covered_none : (shops : List Shop) (asked : List ℕ) → Covered shops asked 0
-covered_none shops asked = record { all = every-none _ }
+-- what the chain over both answers
+pub covers-all : (shops : List Shop) (needs : List ℕ) (r : Bool) → length shops ≤ length needs
+    → MatchBool r (AllWithin (λ (p : Shop × ℕ). p.1 ≤ p.0.applied) (zip shops needs) 0 (length (zip shops needs))) ((k : ℕ) × (k < length (zip shops needs)) × HoldsAt (λ (p : Shop × ℕ). p.0.applied < p.1) (zip shops needs) k)
+    → IsTrue r ↔ Covers shops needs
+covers-all shops needs true l h =
+    (λ e r k. subst (λ (x : Shop × ℕ). x.1 ≤ x.0.applied) (get_or-zip shops needs r (no_shop, 0) k (omega arith)) (h r (no_shop, 0) (omega arith) (omega (arith, length-zip shops needs))), λ c. refl)
+covers-all shops needs false l h =
+    let k : h.0 < length shops = omega (arith, h.1, length-zip shops needs) in
+    let m = subst (λ (x : Shop × ℕ). x.0.applied < x.1) (get_or-zip shops needs h.0 (no_shop, 0) k (omega arith)) (h.2 (no_shop, 0)) in
+    (λ e. absurd (cc), λ c. absurd (omega (arith, c h.0 k, m)))
 
-module _ (shops : List Shop) (asked : List ℕ) where
-  pub covered_more : (i : ℕ) → Covered shops asked i → get_or asked i 0 ≤ (get_or shops i no_shop).applied → Covered shops asked (i + 1)
-  covered_more i C h = record { all = every_more (λ r. leb (get_or asked r 0) (get_or shops r no_shop).applied) i C.all (le-leb _ _ h) }
+module _ (self : Replica) (p : ℕ) where
+  abbrev w : Waiting
+  w = first_waiting self p
 
-  pub covered-fails : (n i : ℕ) → i < n → (get_or shops i no_shop).applied < get_or asked i 0 → false ≡ needs_applied shops n asked
-  unfolding needs_applied
-  covered-fails n i l h = every-fails (λ r. leb (get_or asked r 0) (get_or shops r no_shop).applied) n i l (lt-leb _ _ h)
+  abbrev asked : List ℕ
+  asked = w.needs
 
-  pub covered-done : (n i : ℕ) → n ≤ i → i ≤ n → Covered shops asked i → true ≡ needs_applied shops n asked
-  unfolding needs_applied
-  covered-done n i h l C = every-done (λ r. leb (get_or asked r 0) (get_or shops r no_shop).applied) n i h l C.all
+  abbrev needed : ℕ → Bool
+  needed r = leb (get_or asked r 0) (shop_at self r).applied
 
-module _ (shops : List Shop) (n p : ℕ) (w : Waiting) where
-  -- its number is not the next
-  pub ready-number : (w.number ≡ (get_or shops p no_shop).applied + 1 → ⊥) → false ≡ slip_ready shops n p w
-  unfolding slip_ready
-  ready-number h = sym (ap (λ b. b && (leb w.amount (get_or shops p no_shop).balance && needs_applied shops n w.needs)) (ne_eqb w.number ((get_or shops p no_shop).applied + 1) h))
+  -- the number, the balance and the dependencies, where a slip waits
+  ready-tests : {a b c d : Bool} → ltb 0 (line_at self p).count ≡ a → ready_a self p ≡ b → ready_b self p ≡ c → ready_c self p ≡ d → a && (b && (c && d)) ≡ ready self p
+  unfolding ready
+  ready-tests ea eb ec ed = sym (ap₂ (λ x y. x && y) ea (ap₂ (λ x y. x && y) eb (ap₂ (λ x y. x && y) ec ed)))
 
-  -- it is not covered
-  pub ready-short : (get_or shops p no_shop).balance < w.amount → false ≡ slip_ready shops n p w
-  unfolding slip_ready
-  ready-short h =
-      sym (ap (λ b. eqb w.number ((get_or shops p no_shop).applied + 1) && (b && needs_applied shops n w.needs)) (lt-leb w.amount (get_or shops p no_shop).balance h)
-      ∙ and-false (eqb w.number ((get_or shops p no_shop).applied + 1)))
+  -- nothing waits there
+  pub ready-none : (line_at self p).count ≡ 0 → false ≡ ready self p
+  ready-none h = ready-tests (le-ltb 0 _ (omega arith)) refl refl refl
 
-  -- its dependencies decide
-  pub ready-needs : (t : Bool) → w.number ≡ (get_or shops p no_shop).applied + 1 → w.amount ≤ (get_or shops p no_shop).balance → t ≡ needs_applied shops n w.needs → t ≡ slip_ready shops n p w
-  unfolding slip_ready
-  ready-needs t a b e =
-      e ∙ sym (ap₂ (λ x y. x && (y && needs_applied shops n w.needs)) (eq-eqb w.number ((get_or shops p no_shop).applied + 1) a) (le-leb w.amount (get_or shops p no_shop).balance b))
+  module _ (some : 0 < (line_at self p).count) where
+    -- its number is not the next
+    pub ready-number : (w.number ≡ (shop_at self p).applied + 1 → ⊥) → false ≡ ready self p
+    ready-number h = ready-tests (lt-ltb 0 _ some) (ne_eqb _ _ h) refl refl
+
+    module _ (next : w.number ≡ (shop_at self p).applied + 1) where
+      -- it is not covered
+      pub ready-short : (shop_at self p).balance < w.amount → false ≡ ready self p
+      ready-short h = ready-tests (lt-ltb 0 _ some) (eq-eqb _ _ next) (lt-leb _ _ h) refl
+
+      -- its dependencies decide
+      pub ready-needs : w.amount ≤ (shop_at self p).balance → lawful self ≡ true
+          → (t : Bool) → IsTrue t ↔ Covers (take (shop_count self) self.shops) asked → t ≡ ready self p
+      ready-needs funds law t e =
+          same_from_decides t (ready_c self p) e (apart, covered)
+          ∙ ready-tests (lt-ltb 0 _ some) (eq-eqb _ _ next) (le-leb _ _ funds) refl
+        where
+          front : List Shop
+          front = take (shop_count self) self.shops
+
+          size : length front ≡ shop_count self
+          size =
+              let P = parts self law in
+              length-take-le (shop_count self) self.shops (omega (arith, P.shop_places, (register-legal self.register P.register).fits.most))
+
+          at : (k : ℕ) → k < shop_count self → get_or front k no_shop ≡ shop_at self k
+          at k h = get_or-take (shop_count self) self.shops k no_shop h
+
+          apart : ready_c self p ≡ true → Covers front asked
+          apart c k h =
+              let l : k < shop_count self = omega (arith, size) in
+              omega (arith, leb-true _ _ (every-at (shop_count self) needed c k l), ap (λ (x : Shop). x.applied) (at k l))
+
+          covered : Covers front asked → ready_c self p ≡ true
+          covered c = at_every (shop_count self) needed (λ k l. le-leb _ _ (omega (arith, c k (omega (arith, size)), ap (λ (x : Shop). x.applied) (at k l))))
+
+-- a lawful state has so many shops, and has applied so many slips
+pub few-applied : (self : Replica) (p : ℕ) → (lawful self ≡ true) × (p < shop_count self) → ((shop_at self p).applied ≤ 999999) × (shop_count self ≤ 16)
+few-applied self p (law, h) =
+    let P = parts self law in
+    let L = P.lined p h in
+    (omega (arith, L.taken, L.most), (register-legal self.register P.register).fits.most)
 
 -- ---- the shops when it is applied
 
--- the payer's numbers, by whether it is marked
-pub pays : (t u : Bool) (n amount : ℕ) (s : Shop) → t ≡ u → paying u n amount s ≡ paying t n amount s
-pays t u n amount s e = ap (λ b. paying b n amount s) (sym e)
-
-module _ (shops : List Shop) (own p : ℕ) (w : Waiting) (M : Movable shops p w) where
-  -- the payee's numbers are as they were when the payer has paid
-  pub payee-still : (s : Shop) → get_or (set shops p s) w.payee no_shop ≡ get_or shops w.payee no_shop
-  payee-still s = get_or-set_other shops p w.payee s no_shop M.other
-
-  pub moved-both : (from to : Shop) → from ≡ paying (eqb w.payee own) w.number w.amount (get_or shops p no_shop)
-      → to ≡ paid w.amount (get_or (set shops p from) w.payee no_shop) → set (set shops p from) w.payee to ≡ moved_funds own p w shops
-  unfolding moved_funds
-  moved-both from to a b = ap₂ (λ (l : List Shop) (s : Shop). set l w.payee s) (ap (set shops p) a) (b ∙ ap (λ l. paid w.amount (get_or l w.payee no_shop)) (ap (set shops p) a))
+pub applied-is : (self : Replica) (at p : ℕ) (from to : Shop) (line : Line) → at ≡ own self
+    → from ≡ paying (eqb (first_waiting self p).payee at) (first_waiting self p).number (first_waiting self p).amount (shop_at self p)
+    → to ≡ paid (first_waiting self p).amount (get_or (set self.shops p from) (first_waiting self p).payee no_shop)
+    → line ≡ without_first (line_at self p)
+    → ◌≡◌ {A = Replica} (record { register = self.register; issued = self.issued; shops = set (set self.shops p from) (first_waiting self p).payee to; lines = set self.lines p line }) (apply self p)
+unfolding apply
+applied-is self at p from to line o a b l =
+    let w = first_waiting self p in
+    let f : from ≡ paying (eqb w.payee (own self)) w.number w.amount (shop_at self p) = a ∙ ap (λ k. paying (eqb w.payee k) w.number w.amount (shop_at self p)) o in
+    let shops = ap₂ (λ (xs : List Shop) (s : Shop). set xs w.payee s) (ap (set self.shops p) f) (b ∙ ap (λ (xs : List Shop). paid w.amount (get_or xs w.payee no_shop)) (ap (set self.shops p) f)) in
+    λ i. record { register = self.register; issued = self.issued; shops = shops i; lines = set self.lines p (l i) }

@@ -4,10 +4,9 @@ use Rattle.texts.specs.Answers.{Row, shop, state, answer_of}
 use Rattle.texts.specs.Code.{code_of}
 use Rattle.texts.specs.Register.{position, listed}
 use Rattle.replica.specs.declared.record.Replica.{Replica}
-use Rattle.replica.specs.declared.outcome.Outcome.{Outcome}
 use Rattle.replica.specs.Record.{shop_at}
 use Rattle.replica.specs.State.{lawful}
-use Rattle.replica.specs.Outcome.{refused}
+use Rattle.replica.specs.Outcome.{Outcome, refused}
 
 unfoldable pub balance_rows : Replica → List ℕ → List Row
 balance_rows self code = (state, not (lawful self)) ∷ (shop, not (listed self.register (code_of code))) ∷ []

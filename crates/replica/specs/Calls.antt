@@ -2,11 +2,10 @@
 use Rattle.std.specs.Prelude.{◌≡◌, List, [], ◌∷◌, ◌++◌, ℕ, zero, suc, eqb, true, false}
 use Rattle.texts.specs.declared.slip.Slip.{Slip}
 use Rattle.replica.specs.declared.record.Replica.{Replica}
-use Rattle.replica.specs.declared.outcome.Outcome.{Outcome}
 use Rattle.replica.specs.Record.{no_replica}
 use Rattle.replica.specs.Slips.{slip_at}
 use Rattle.replica.specs.Settle.{apply, applying}
-use Rattle.replica.specs.Outcome.{refused}
+use Rattle.replica.specs.Outcome.{Outcome, refused}
 use Rattle.replica.specs.Take.{slip_from, payer_of, entered, taken, taken_list}
 use Rattle.replica.specs.Issue.{issued, issued_buffer}
 use Rattle.replica.specs.Balance.{asked}

@@ -1,6 +1,6 @@
 -- What the crate's private functions promise one another: the state rule by position, and the parts of take, settle and issue. No public
 -- promise rests on a word of it.
-use Rattle.std.specs.Prelude.{◌≡◌, Bool, true, false, not, ◌&&◌, ◌||◌, List, [], ◌∷◌, ◌++◌, map, ℕ, zero, suc, ◌+◌, ◌-◌, ◌≤◌, ◌<◌, leb, ltb, eqb, length, get_or, replicate}
+use Rattle.std.specs.Prelude.{◌≡◌, ◌≢◌, not, ◌||◌, List, [], ◌∷◌, ◌++◌, map, ℕ, zero, suc, ◌+◌, ◌-◌, ◌≤◌, ◌<◌, ltb, eqb, length, take, drop, get_or, replicate, All, sum_by}
 use Rattle.texts.specs.Answers.{Row, shop, oneself, range, number, full, busy, short, usedup, answer_of}
 use Rattle.texts.specs.Bounds.{most_shops, most}
 use Rattle.texts.specs.Code.{same_code}
@@ -11,67 +11,79 @@ use Rattle.texts.specs.declared.code.Code.{Code}
 use Rattle.texts.specs.declared.register.Register.{Register}
 use Rattle.texts.specs.declared.entry.Entry.{Entry}
 use Rattle.texts.specs.declared.slip.Slip.{Slip}
-use Rattle.replica.specs.declared.checks.Places.{Places}
 use Rattle.replica.specs.declared.record.Shop.{Shop}
 use Rattle.replica.specs.declared.record.Waiting.{Waiting}
 use Rattle.replica.specs.declared.record.Line.{Line}
 use Rattle.replica.specs.declared.record.Replica.{Replica}
-use Rattle.replica.specs.declared.outcome.Outcome.{Outcome}
 use Rattle.replica.specs.Bounds.{most_credit, most_waiting}
-use Rattle.replica.specs.Record.{no_shop, listed_at, adjust, sum_to, every}
+use Rattle.replica.specs.Record.{no_shop, no_waiting, no_line, shop_count, own, shop_at}
 use Rattle.replica.specs.Checks.{check_rows}
-use Rattle.replica.specs.State.{zero_shop, zero_waiting, zero_line}
-use Rattle.replica.specs.Settle.{paying, paid, settled, applying}
+use Rattle.replica.specs.Settle.{settled, applying}
 use Rattle.replica.specs.Take.{number?, full?, entered}
-use Rattle.replica.specs.Outcome.{refused, did}
+use Rattle.replica.specs.Outcome.{Outcome, refused, did}
 
 -- ---- the state rule, by position. An element past an array's end is what the checker has there.
 
 -- The number that a payer's slip asks for at place i, of n shops.
-abbrev pub need_kept : ℕ → ℕ → ℕ → ℕ → Bool
-need_kept n payer i m = leb m most && (eqb m 0 || (ltb i n && not (eqb i payer)))
+pub record NeedKept (payer n i m : ℕ) : Type 0 where
+  pub most : m ≤ most
+  pub known : 0 < m → i < n
+  pub other : 0 < m → i ≢ payer
 
-unfoldable pub needs_kept : ℕ → ℕ → List ℕ → Bool
-needs_kept n payer needs = eqb (length needs) most_shops && every most_shops (λ i. need_kept n payer i (get_or needs i 0))
+pub record NeedsKept (payer n : ℕ) (needs : List ℕ) : Type 0 where
+  pub places : length needs ≡ most_shops
+  pub at : (i : ℕ) → i < most_shops → NeedKept payer n i (get_or needs i 0)
 
 -- A slip that waits for a shop, of n, under a number.
-unfoldable pub slip_kept : ℕ → ℕ → ℕ → Waiting → Bool
-slip_kept payer n named w =
-    eqb w.payer payer &&
-    (eqb w.number named &&
-    ((leb 1 w.amount && leb w.amount most) && (ltb w.payee n && (not (eqb w.payee payer) && needs_kept n payer w.needs))))
+pub record SlipKept (p n named : ℕ) (w : Waiting) : Type 0 where
+  pub payer : w.payer ≡ p
+  pub number : w.number ≡ named
+  pub some : 1 ≤ w.amount
+  pub most : w.amount ≤ most
+  pub payee : w.payee < n
+  pub other : w.payee ≢ p
+  pub needs : NeedsKept p n w.needs
 
-unfoldable pub place_kept : ℕ → ℕ → ℕ → ℕ → ℕ → Waiting → Bool
-place_kept k waits payer n applied w = elim (ltb k waits) [ true ↦ slip_kept payer n (applied + 1 + k) w | false ↦ zero_waiting w ]
+-- Slips that wait for it one after the other, from the number after applied on.
+abbrev pub InTurn : ℕ → ℕ → ℕ → List Waiting → Type 0
+InTurn payer n applied slips = (k : ℕ) (z : Waiting) → k < length slips → SlipKept payer n (applied + 1 + k) (get_or slips k z)
 
-abbrev pub slip_place : Line → ℕ → Waiting
-slip_place l k = get_or l.slips k (record { payer = 0; number = 0; payee = 0; amount = 0; needs = [] })
+pub record LineKept (payer n applied : ℕ) (l : Line) : Type 0 where
+  pub places : length l.slips ≡ most_waiting
+  pub eight : l.count ≤ most_waiting
+  pub used : InTurn payer n applied (take l.count l.slips)
+  pub unused : All (λ w. w ≡ no_waiting) (drop l.count l.slips)
 
-unfoldable pub line_kept_at : ℕ → ℕ → ℕ → Line → Bool
-line_kept_at payer n applied l = eqb (length l.slips) most_waiting && (leb l.count most_waiting && every most_waiting (λ k. place_kept k l.count payer n applied (slip_place l k)))
+pub record NumbersKept (waits : ℕ) (s : Shop) : Type 0 where
+  pub taken : s.taken ≡ s.applied + waits
+  pub most : s.taken ≤ most
+  pub mark : s.mark ≤ s.applied
 
-unfoldable pub numbers_kept : ℕ → Shop → Bool
-numbers_kept waits s = eqb s.taken (s.applied + waits) && (leb s.taken most && leb s.mark s.applied)
+pub record ShopKept (payer n : ℕ) (s : Shop) (l : Line) : Type 0 where
+  pub numbers : NumbersKept l.count s
+  pub line : LineKept payer n s.applied l
 
-unfoldable pub shop_kept : ℕ → ℕ → Shop → Line → Bool
-shop_kept n p s l = elim (ltb p n) [ true ↦ numbers_kept l.count s && line_kept_at p n s.applied l | false ↦ zero_shop s && zero_line l ]
+abbrev pub ShopsKept : List Shop → List Line → Type 0
+ShopsKept ss ls = (p : ℕ) (s : Shop) (l : Line) → p < length ss → ShopKept p (length ss) (get_or ss p s) (get_or ls p l)
 
-unfoldable pub balanced : Register → List Shop → Bool
-balanced r shops = eqb (sum_to r.count (λ p. (get_or shops p no_shop).balance)) (sum_to r.count (λ p. opening (listed_at r p)))
+pub record OwnKept (issued : ℕ) (s : Shop) : Type 0 where
+  pub mark : s.mark ≡ 0
+  pub most : issued ≤ most
+  pub next : issued ≤ s.applied + 1
 
-unfoldable pub own_kept : ℕ → Shop → Bool
-own_kept issued s = eqb s.mark 0 && (leb issued most && leb issued (s.applied + 1))
+-- The whole record, where its register is legal.
+pub record RecordKept (self : Replica) : Type 0 where
+  pub own_shop : OwnKept self.issued (shop_at self (own self))
+  pub sums : sum_by (λ (s : Shop). s.balance) (take (shop_count self) self.shops) ≡ sum_by opening (take (shop_count self) self.register.shops)
+  pub kept : ShopsKept (take (shop_count self) self.shops) (take (shop_count self) self.lines)
+  pub unused_shops : All (λ s. s ≡ no_shop) (drop (shop_count self) self.shops)
+  pub unused_lines : All (λ l. l ≡ no_line) (drop (shop_count self) self.lines)
 
 -- ---- taking
 
--- The positions of a slip's codes.
-unfoldable pub places_of : Register → Slip → Places
-places_of r s =
-    record {
-      payer = position r s.payer;
-      payee = position r s.payee;
-      deps = map (λ (d : Entry). position r d.code) (deps_of s) ++ replicate (most_shops - s.count) 0;
-    }
+-- The positions of a slip's dependencies in use, then zeros.
+unfoldable pub dep_places : Register → Slip → List ℕ
+dep_places r s = map (λ (d : Entry). position r d.code) (deps_of s) ++ replicate (most_shops - s.count) 0
 
 -- What is left to ask of a slip that was read: 4, 2, 3, 5, then 6 and 7.
 abbrev pub late_rows : Replica → Slip → List Row
@@ -86,13 +98,6 @@ took_list self s list = elim (answer_of (late_rows self s)) [ zero ↦ over (app
 
 -- ---- settling
 
-unfoldable pub needs_applied : List Shop → ℕ → List ℕ → Bool
-needs_applied shops n needs = every n (λ r. leb (get_or needs r 0) (get_or shops r no_shop).applied)
-
-unfoldable pub slip_ready : List Shop → ℕ → ℕ → Waiting → Bool
-slip_ready shops n p w =
-    eqb w.number ((get_or shops p no_shop).applied + 1) && (leb w.amount (get_or shops p no_shop).balance && needs_applied shops n w.needs)
-
 -- The shops can move the slip's amount.
 pub record Movable (shops : List Shop) (p : ℕ) (w : Waiting) : Type 0 where
   pub payer : p < most_shops
@@ -101,9 +106,6 @@ pub record Movable (shops : List Shop) (p : ℕ) (w : Waiting) : Type 0 where
   pub funds : w.amount ≤ (get_or shops p no_shop).balance
   pub count : (get_or shops p no_shop).applied ≤ most
   pub room : (get_or shops w.payee no_shop).balance + w.amount ≤ most_credit
-
-unfoldable pub moved_funds : ℕ → ℕ → Waiting → List Shop → List Shop
-moved_funds own p w shops = adjust (paid w.amount) w.payee (adjust (paying (eqb w.payee own) w.number w.amount) p shops)
 
 -- ---- issuing
 

@@ -9,11 +9,10 @@ use Rattle.texts.specs.Slip.{slip_layout}
 use Rattle.texts.specs.declared.slip.Slip.{Slip}
 use Rattle.replica.specs.declared.record.Shop.{Shop}
 use Rattle.replica.specs.declared.record.Replica.{Replica}
-use Rattle.replica.specs.declared.outcome.Outcome.{Outcome}
 use Rattle.replica.specs.Record.{own, shop_at, line_at}
 use Rattle.replica.specs.Slips.{deps_from, slip_with}
 use Rattle.replica.specs.State.{lawful}
-use Rattle.replica.specs.Outcome.{refused, did}
+use Rattle.replica.specs.Outcome.{Outcome, refused, did}
 
 abbrev pub own_shop : Replica → Shop
 own_shop self = shop_at self (own self)

@@ -6,9 +6,8 @@ use Rattle.texts.specs.declared.entry.Entry.{Entry}
 use Rattle.texts.specs.declared.register.Register.{Register}
 use Rattle.replica.specs.declared.record.Shop.{Shop}
 use Rattle.replica.specs.declared.record.Replica.{Replica}
-use Rattle.replica.specs.declared.outcome.Outcome.{Outcome}
 use Rattle.replica.specs.Record.{no_line, no_replica}
-use Rattle.replica.specs.Outcome.{refused, did}
+use Rattle.replica.specs.Outcome.{Outcome, refused, did}
 
 abbrev pub first_day : Entry → Shop
 first_day l = record { balance = opening l; taken = 0; applied = 0; mark = 0 }

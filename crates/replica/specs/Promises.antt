@@ -3,9 +3,10 @@ use Rattle.std.specs.Prelude.{◌≡◌, true, false, List, [], ◌∷◌, ℕ, 
 use Rattle.texts.specs.Register.{register_in}
 use Rattle.texts.specs.Slip.{slip_in}
 use Rattle.texts.specs.Answers.{numbers_of}
+use Rattle.texts.specs.Promises.{SaidOnce}
 use Rattle.texts.specs.declared.slip.Slip.{Slip}
 use Rattle.replica.specs.declared.record.Replica.{Replica}
-use Rattle.replica.specs.declared.outcome.Outcome.{Outcome}
+use Rattle.replica.specs.Outcome.{Outcome, count_said, balance_said, open_said}
 use Rattle.replica.specs.Bounds.{list_room}
 use Rattle.replica.specs.Record.{no_replica, shop_count, shop_at, line_at, waiting_at, sum_to}
 use Rattle.replica.specs.Slips.{waiting_of, slip_of, slip_at}
@@ -28,6 +29,17 @@ IssueOrder =
 
 abbrev pub BalanceOrder : Type 0
 BalanceOrder = (self : Replica) (code : List ℕ) → numbers_of (balance_rows self code) ≡ 13 ∷ 2 ∷ []
+
+-- ---- what is said of a reply determines it: its number, its count or balance, and its state
+
+abbrev pub CountSaidOnce : Type 0
+CountSaidOnce = SaidOnce count_said
+
+abbrev pub BalanceSaidOnce : Type 0
+BalanceSaidOnce = SaidOnce balance_said
+
+abbrev pub OpenSaidOnce : Type 0
+OpenSaidOnce = SaidOnce open_said
 
 -- ---- settling
 

@@ -10,14 +10,13 @@ use Rattle.replica.specs.declared.record.Shop.{Shop}
 use Rattle.replica.specs.declared.record.Waiting.{Waiting}
 use Rattle.replica.specs.declared.record.Line.{Line}
 use Rattle.replica.specs.declared.record.Replica.{Replica}
-use Rattle.replica.specs.declared.outcome.Outcome.{Outcome}
 use Rattle.replica.specs.Bounds.{list_room, most_waiting}
 use Rattle.replica.specs.Record.{shop_at, line_at, adjust}
 use Rattle.replica.specs.Slips.{waiting_of}
 use Rattle.replica.specs.Checks.{range?, shop?, self?, deps?}
 use Rattle.replica.specs.State.{lawful}
 use Rattle.replica.specs.Settle.{settled, applying}
-use Rattle.replica.specs.Outcome.{refused, did}
+use Rattle.replica.specs.Outcome.{Outcome, refused, did}
 
 -- The slip of the text (zeros where it has none), and its payer's position.
 abbrev pub slip_from : List ℕ → Slip

@@ -1,31 +1,28 @@
 // Asking a balance.
 ghost use Rattle.std.specs.Prelude.{◌≡◌};
+ghost use Rattle.replica.specs.Outcome.{balance_said};
 ghost use Rattle.replica.specs.Balance.{asked};
 
-use crate::outcome::Outcome;
 use crate::record::Replica;
-use texts::Code;
-use texts::answers::{OK, SHOP, STATE};
+use crate::reply::Reply;
+use texts::{Code, Refusal};
 
 impl Replica {
     // The balance of a shop.
-    pub fn balance(self, code: &[u8]) -> Outcome
-        ensures { result ≡ asked self code.now }
+    pub fn balance(self, code: &[u8]) -> Reply<u32>
+        ensures { balance_said result ≡ asked self code.now }
     {
         if !self.lawful() {
-            return self.refused(STATE);
+            return self.refused(Refusal::State);
         }
-        let register = self.register;
         let shop = Code::from_bytes(code);
-        if register.lists(shop) {
-            let at = register.position(shop);
-            return Outcome {
-                answer: OK,
-                balance: self.shops[at].balance,
-                count: 0,
-                replica: self,
-            };
+        if !self.register.lists(shop) {
+            return self.refused(Refusal::Shop);
         }
-        self.refused(SHOP)
+        let at = self.register.position(shop);
+        Reply {
+            answer: Ok(self.shops[at].balance),
+            replica: self,
+        }
     }
 }

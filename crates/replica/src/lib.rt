@@ -6,11 +6,11 @@ pub mod bounds;
 mod checks;
 mod issue;
 mod open;
-mod outcome;
 mod record;
+mod reply;
 mod settle;
 mod state;
 mod take;
 
-pub use outcome::Outcome;
 pub use record::{Line, Replica, Shop, Waiting};
+pub use reply::Reply;

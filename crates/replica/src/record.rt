@@ -6,8 +6,9 @@ use crate::bounds::WAITING;
 use texts::Register;
 use texts::bounds::SHOPS;
 
-// Per shop: the balance, the number taken in, the number applied, the mark.
-#[derive(Clone, Copy)]
+// Per shop: the balance, the number taken in, the number applied, the mark (0: none, as `deps_from` has it). No fact in the type: any record
+// may be handed in.
+#[derive(Clone, Copy, PartialEq, Eq)]
 pub struct Shop {
     pub balance: u32,
     pub taken: u32,
@@ -16,8 +17,8 @@ pub struct Shop {
 }
 
 // A waiting slip by position: the payer's position, the payee's position, the slip's number, the amount, and per shop the number
-// that must be applied there (0: none).
-#[derive(Clone, Copy)]
+// that must be applied there (0: none, as `waiting_of` has it).
+#[derive(Clone, Copy, PartialEq, Eq)]
 pub struct Waiting {
     pub payer: usize,
     pub payee: usize,
@@ -27,13 +28,16 @@ pub struct Waiting {
 }
 
 // The slips that wait for one shop, in number order; zeros in the places that are not used.
-#[derive(Clone, Copy)]
+// A count beside the places, since `lawful` speaks of lines whatever stands in each place.
+#[derive(Clone, Copy, PartialEq, Eq)]
 pub struct Line {
     pub count: usize,
     pub slips: [Waiting; WAITING],
 }
 
-// One replica. The number of shops and the own shop stand in the register.
+// One replica. The number of shops and the own shop stand in the register. Three lists by position, since the state rule and the steps speak
+// of a shop's entry, numbers and line apart (`listed_at`, `shop_at`, `line_at`). That it is lawful stands in clauses and not in the type:
+// any record may be handed in, and the rules name it a struct by value.
 #[derive(Clone, Copy)]
 pub struct Replica {
     pub register: Register,
@@ -76,10 +80,9 @@ impl Line {
     pub(crate) fn none() -> Self
         ensures { result ≡ no_line }
     {
-        let slip = Waiting::none();
         Line {
             count: 0,
-            slips: [slip; WAITING],
+            slips: [Waiting::none(); WAITING],
         }
     }
 }
@@ -89,14 +92,11 @@ impl Replica {
     pub fn none() -> Self
         ensures { result ≡ no_replica }
     {
-        let register = Register::none();
-        let line = Line::none();
-        let shop = Shop::none();
         Replica {
-            register,
+            register: Register::none(),
             issued: 0,
-            shops: [shop; SHOPS],
-            lines: [line; SHOPS],
+            shops: [Shop::none(); SHOPS],
+            lines: [Line::none(); SHOPS],
         }
     }
 }

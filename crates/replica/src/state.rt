@@ -1,271 +1,153 @@
 // The state rule, as a test on any record.
-ghost use Rattle.std.specs.Prelude.{◌≡◌, ◌+◌, ◌≤◌, ◌<◌, eqb};
+ghost use Rattle.std.specs.Prelude.{◌≡◌, ◌≤◌, ◌↔◌, IsTrue, All, length, sum_by};
 ghost use Rattle.texts.specs.Bounds.{most, most_shops};
+ghost use Rattle.texts.specs.Register.{opening, register_answer};
 ghost use Rattle.replica.specs.Bounds.{most_waiting};
-ghost use Rattle.replica.specs.State.{zero_from, zero_shop, zero_waiting, zero_line, lawful};
-ghost use Rattle.replica.specs.Inside.{needs_kept, slip_kept, place_kept, line_kept_at, balanced, numbers_kept, own_kept, shop_kept};
+ghost use Rattle.replica.specs.State.{lawful};
+ghost use Rattle.replica.specs.Inside.{NeedsKept, SlipKept, InTurn, LineKept, NumbersKept, OwnKept, ShopKept, ShopsKept, RecordKept};
 
 use crate::bounds::WAITING;
 use crate::record::{Line, Replica, Shop, Waiting};
-use texts::Register;
-use texts::answers::OK;
+use texts::Entry;
 use texts::bounds::{MOST, SHOPS};
 
-// Are the numbers from a position on all zero.
-fn zero_from(needs: [u32; SHOPS], from: usize) -> bool
-    ensures { result ≡ zero_from most_shops (eqb 0) from needs }
-{
-    let mut i = from;
-    while i < SHOPS {
-        if needs[i] != 0 {
-            return false;
-        }
-        i += 1;
+// The shop whose slips are asked: its position, of so many shops.
+#[derive(Clone, Copy)]
+struct Payer {
+    position: usize,
+    shops: usize,
+}
+
+impl Payer {
+    // Could its slip ask for such numbers: of shops that there are, none of its own, each such as a slip can carry.
+    fn may_need(self, needs: &[u32; SHOPS]) -> bool
+        ensures { IsTrue result ↔ NeedsKept self.position self.shops needs.now }
+    {
+        needs.iter().enumerate().all(|(shop, &number)| {
+            number <= MOST && (number == 0 || shop < self.shops && shop != self.position)
+        })
     }
-    true
 }
 
 impl Waiting {
-    // Is it zeros in all its places.
-    fn is_none(self) -> bool
-        ensures { result ≡ zero_waiting self }
+    // Could it wait for that shop under that number.
+    fn is_kept(&self, payer: Payer, number: u32) -> bool
+        ensures { IsTrue result ↔ SlipKept payer.position payer.shops number self.now }
     {
-        let needs = self.needs;
-        if self.payer != 0 {
-            return false;
-        }
-        if self.number != 0 {
-            return false;
-        }
-        if self.payee != 0 {
-            return false;
-        }
-        if self.amount != 0 {
-            return false;
-        }
-        zero_from(needs, 0)
+        self.payer == payer.position
+            && self.number == number
+            && (1..=MOST).contains(&self.amount)
+            && self.payee < payer.shops
+            && self.payee != payer.position
+            && payer.may_need(&self.needs)
     }
 }
 
-// The numbers that a slip of the payer asks for: of shops that there are, none of the payer, each such as a slip can carry.
-fn needs_kept(needs: [u32; SHOPS], n: usize, payer: usize) -> bool
-    ensures { result ≡ needs_kept n payer needs }
+// Are all these places unused: each the value of zeros that is given.
+fn are_all<T: PartialEq>(places: &[T], unused: &T) -> bool
+    requires { (x y : T) → IsTrue (T.eq x y) ↔ (x ≡ y) }
+    ensures { IsTrue result ↔ All (λ place. place ≡ unused.now) places.now }
 {
-    let mut i = 0;
-    while i < SHOPS {
-        let number = needs[i];
-        if MOST < number {
-            return false;
-        }
-        if number != 0 {
-            if n <= i {
-                return false;
-            }
-            if i == payer {
-                return false;
-            }
-        }
-        i += 1;
-    }
-    true
+    places.iter().all(|place| place == unused)
 }
 
-impl Waiting {
-    // Could it wait for that shop, of n, under that number.
-    fn is_kept(self, payer: usize, n: usize, number: u32) -> bool
-        ensures { result ≡ slip_kept payer n number self }
-    {
-        let needs = self.needs;
-        let amount = self.amount;
-        let payee = self.payee;
-        if self.payer != payer {
-            return false;
-        }
-        if self.number != number {
-            return false;
-        }
-        if amount < 1 {
-            return false;
-        }
-        if MOST < amount {
-            return false;
-        }
-        if n <= payee {
-            return false;
-        }
-        if payee == payer {
-            return false;
-        }
-        needs_kept(needs, n, payer)
-    }
-}
-
-// Is the place k of the line of a shop as it must be: a slip with the next number where it is used, else zeros.
-fn place_kept(slip: Waiting, k: usize, waits: usize, payer: usize, n: usize, applied: u32) -> bool
-    requires { (applied ≤ most) × (k < most_waiting) }
-    ensures { result ≡ place_kept k waits payer n applied slip }
+// Do the slips wait for that shop one after the other, from the number after applied on.
+fn in_turn(slips: &[Waiting], payer: Payer, applied: u32) -> bool
+    requires few { length slips.now ≤ most_waiting }
+    requires fits { applied ≤ most }
+    ensures { IsTrue result ↔ InTurn payer.position payer.shops applied slips.now }
 {
-    if k < waits {
-        return slip.is_kept(payer, n, applied + 1 + k as u32);
-    }
-    slip.is_none()
+    slips
+        .iter()
+        .enumerate()
+        .all(|(k, slip)| slip.is_kept(payer, applied + 1 + k as u32))
 }
 
 impl Line {
-    // Does nothing wait in it, with zeros in all its places.
-    fn is_none(self) -> bool
-        ensures { result ≡ zero_line self }
-    {
-        if self.count != 0 {
-            return false;
-        }
-        let mut k = 0;
-        while k < WAITING {
-            let slip = self.slips[k];
-            if !slip.is_none() {
-                return false;
-            }
-            k += 1;
-        }
-        true
-    }
-
-    // Is it the line of that shop, of n, whose slips up to the number applied are gone.
-    fn is_kept(self, payer: usize, n: usize, applied: u32) -> bool
+    // Is it the line of that shop, whose slips up to the number applied are gone, with zeros in the places that are not used.
+    fn is_kept(&self, payer: Payer, applied: u32) -> bool
         requires { applied ≤ most }
-        ensures { result ≡ line_kept_at payer n applied self }
+        ensures { IsTrue result ↔ LineKept payer.position payer.shops applied self.now }
     {
-        let waits = self.count;
-        if WAITING < waits {
-            return false;
-        }
-        let mut k = 0;
-        while k < WAITING {
-            let slip = self.slips[k];
-            if !place_kept(slip, k, waits, payer, n, applied) {
-                return false;
-            }
-            k += 1;
-        }
-        true
+        self.count <= WAITING
+            && in_turn(&self.slips[..self.count], payer, applied)
+            && are_all(&self.slips[self.count..], &Waiting::none())
     }
 }
 
 impl Shop {
-    // Are its numbers zero.
-    fn is_none(self) -> bool
-        ensures { result ≡ zero_shop self }
+    // Is its taken number applied + waiting and at most 999,999, and its mark at most applied.
+    fn is_kept(&self, waits: usize) -> bool
+        ensures { IsTrue result ↔ NumbersKept waits self.now }
     {
-        if self.balance != 0 {
-            return false;
-        }
-        if self.taken != 0 {
-            return false;
-        }
-        if self.applied != 0 {
-            return false;
-        }
-        self.mark == 0
+        self.taken <= MOST
+            && self.applied <= self.taken
+            && (self.taken - self.applied) as usize == waits
+            && self.mark <= self.applied
     }
 
-    // Is its taken number applied + waiting and at most 999,999, and its mark at most applied.
-    fn is_kept(self, waits: usize) -> bool
-        ensures { result ≡ numbers_kept waits self }
+    // Is its mark 0, as the own shop's must be, and the issued number at most 999,999 and at most applied + 1.
+    fn is_own(&self, issued: u32) -> bool
+        ensures { IsTrue result ↔ OwnKept issued self.now }
     {
-        if MOST < self.taken {
-            return false;
-        }
-        if self.taken < self.applied {
-            return false;
-        }
-        if (self.taken - self.applied) as usize != waits {
-            return false;
-        }
-        self.mark <= self.applied
+        // subtracted, so that no record can make it overflow
+        self.mark == 0 && issued <= MOST && issued.saturating_sub(1) <= self.applied
     }
 }
 
-// Do the balances of the first n shops add up to their openings.
-fn is_balanced(register: Register, shops: [Shop; SHOPS]) -> bool
-    requires { register.count ≤ most_shops }
-    ensures { result ≡ balanced register shops }
+// Do the balances of the shops add up to their openings.
+fn is_balanced(shops: &[Shop], listed: &[Entry]) -> bool
+    requires shops { length shops.now ≤ most_shops }
+    requires listed { length listed.now ≤ most_shops }
+    ensures { IsTrue result ↔ (sum_by (λ s. s.balance) shops.now ≡ sum_by opening listed.now) }
 {
-    let n = register.count;
-    let mut openings: u64 = 0;
-    let mut balances: u64 = 0;
-    let mut i = 0;
-    while i < n {
-        let listed = register.shops[i];
-        let shop = shops[i];
-        openings += listed.number as u64;
-        balances += shop.balance as u64;
-        i += 1;
-    }
+    let balances: u64 = shops.iter().map(|shop| shop.balance as u64).sum();
+    let openings: u64 = listed.iter().map(|shop| shop.number as u64).sum();
     balances == openings
 }
 
-// Is the own shop's mark 0, and the issued number at most 999,999 and at most own applied + 1.
-fn own_kept(own: Shop, issued: u32) -> bool
-    ensures { result ≡ own_kept issued own }
+// Is that shop, with its line, as it must be.
+fn shop_kept(shop: &Shop, line: &Line, payer: Payer) -> bool
+    ensures { IsTrue result ↔ ShopKept payer.position payer.shops shop.now line.now }
 {
-    if own.mark != 0 {
-        return false;
-    }
-    if MOST < issued {
-        return false;
-    }
-    if issued == 0 {
-        return true;
-    }
-    // subtracted, so that no record can make it overflow
-    issued - 1 <= own.applied
+    shop.is_kept(line.count) && line.is_kept(payer, shop.applied)
 }
 
-// Is the shop at a position, with its line, as it must be; past the last shop: zeros.
-fn shop_kept(shop: Shop, line: Line, position: usize, n: usize) -> bool
-    ensures { result ≡ shop_kept n position shop line }
+// Is each shop, with its line, as it must be.
+fn shops_kept(shops: &[Shop], lines: &[Line]) -> bool
+    requires { length lines.now ≡ length shops.now }
+    ensures { IsTrue result ↔ ShopsKept shops.now lines.now }
 {
-    if position < n {
-        let waits = line.count;
-        if shop.is_kept(waits) {
-            return line.is_kept(position, n, shop.applied);
-        }
-        return false;
-    }
-    if shop.is_none() {
-        return line.is_none();
-    }
-    false
+    shops.iter().zip(lines).enumerate().all(|(position, (shop, line))| {
+        let payer = Payer {
+            position,
+            shops: shops.len(),
+        };
+        shop_kept(shop, line, payer)
+    })
 }
 
 impl Replica {
-    // Does the record keep the state rule.
-    pub fn lawful(self) -> bool
-        ensures { result ≡ lawful self }
+    // Does the record keep the state rule, where its register is legal.
+    fn is_kept(&self) -> bool
+        requires { register_answer self.now.register ≡ 0 }
+        ensures { IsTrue result ↔ RecordKept self.now }
     {
-        let register = self.register;
-        let shops = self.shops;
+        let register = &self.register;
         let n = register.count;
-        if register.answer() != OK {
-            return false;
-        }
-        let own = register.position(register.own);
-        let own_shop = shops[own];
-        if !own_kept(own_shop, self.issued) {
-            return false;
-        }
-        if !is_balanced(register, shops) {
-            return false;
-        }
-        let mut p = 0;
-        while p < SHOPS {
-            let shop = shops[p];
-            let line = self.lines[p];
-            if !shop_kept(shop, line, p, n) {
-                return false;
-            }
-            p += 1;
-        }
-        true
+        let (shops, unused_shops) = self.shops.split_at(n);
+        let (lines, unused_lines) = self.lines.split_at(n);
+        self.shops[register.position(register.own)].is_own(self.issued)
+            && is_balanced(shops, &register.shops[..n])
+            && shops_kept(shops, lines)
+            && are_all(unused_shops, &Shop::none())
+            && are_all(unused_lines, &Line::none())
+    }
+
+    // Does the record keep the state rule.
+    pub fn lawful(&self) -> bool
+        ensures { result ≡ lawful self.now }
+    {
+        self.register.answer().is_ok() && self.is_kept()
     }
 }

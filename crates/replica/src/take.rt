@@ -4,72 +4,64 @@ ghost use Rattle.texts.specs.Slip.{slip_layout};
 ghost use Rattle.replica.specs.Bounds.{list_room, most_waiting};
 ghost use Rattle.replica.specs.State.{lawful};
 ghost use Rattle.replica.specs.Take.{with_last, taken, taken_list};
+ghost use Rattle.replica.specs.Outcome.{count_said};
 ghost use Rattle.replica.specs.Inside.{took_slip, took_list};
 
 use crate::bounds::{LIST_ROOM, WAITING};
-use crate::checks::{places_of, slip_answer, waiting_of};
-use crate::outcome::Outcome;
+use crate::checks::PlacedSlip;
 use crate::record::{Line, Replica, Waiting};
-use texts::answers::{FULL, NUMBER, OK, ROOM, STATE};
-use texts::{Slip, read_slip};
+use crate::reply::Reply;
+use texts::{Refusal, Slip, read_slip};
 
 impl Line {
-    // The line with one slip more, last.
-    fn with_last(mut self, slip: Waiting) -> Self
-        requires { self.count < most_waiting }
-        ensures { result ≡ with_last self slip }
+    // One slip more, last.
+    fn push(&mut self, slip: Waiting)
+        requires { self.old.count < most_waiting }
+        ensures { self.new ≡ with_last self.old slip }
     {
-        let n = self.count;
-        self.slips[n] = slip;
-        self.count = n + 1;
-        self
+        self.slips[self.count] = slip;
+        self.count += 1;
     }
 }
 
 impl Replica {
     // Takes in a slip that was read: the checks 4, 2, 3, 5, 6, 7; accepted, it goes last in its payer's line, then settle.
-    fn take_slip(mut self, slip: Slip, list: &mut [u8]) -> Outcome
+    fn take_slip(mut self, slip: Slip, list: &mut [u8]) -> Reply<usize>
         requires { (lawful self ≡ true) × (slip_layout.legal slip ≡ true) × (list_room ≤ length list.old) }
-        ensures outcome { result ≡ took_slip self slip }
+        ensures outcome { count_said result ≡ took_slip self slip }
         ensures bytes { list.new ≡ took_list self slip list.old }
     {
-        let register = self.register;
-        let places = places_of(register, slip);
-        let answer = slip_answer(register, slip, places);
-        if answer != OK {
-            return self.refused(answer);
+        let placed = PlacedSlip::new(&self.register, &slip);
+        if let Err(refusal) = placed.answer() {
+            return self.refused(refusal);
         }
-        let payer = places.payer;
-        let line = self.lines[payer];
+        let payer = placed.payer;
         if slip.number != self.shops[payer].taken + 1 {
-            return self.refused(NUMBER);
+            return self.refused(Refusal::Number);
         }
-        if WAITING <= line.count {
-            return self.refused(FULL);
+        if WAITING <= self.lines[payer].count {
+            return self.refused(Refusal::Full);
         }
-        let waiting = waiting_of(register, slip, places);
-        let longer = line.with_last(waiting);
-        self.lines[payer] = longer;
+        let waiting = placed.waiting();
+        self.lines[payer].push(waiting);
         self.shops[payer].taken = slip.number;
         self.settle(list)
     }
 
     // Takes in a slip's text; the lent list gets the positions of the payers whose slips were applied, in their order.
-    pub fn take(self, text: &[u8], list: &mut [u8]) -> Outcome
-        ensures outcome { result ≡ taken self text.now list.old }
+    pub fn take(self, text: &[u8], list: &mut [u8]) -> Reply<usize>
+        ensures outcome { count_said result ≡ taken self text.now list.old }
         ensures bytes { list.new ≡ taken_list self text.now list.old }
     {
         if !self.lawful() {
-            return self.refused(STATE);
+            return self.refused(Refusal::State);
         }
         if list.len() < LIST_ROOM {
-            return self.refused(ROOM);
+            return self.refused(Refusal::Room);
         }
-        let read = read_slip(text);
-        let slip = read.slip;
-        if read.answer != OK {
-            return self.refused(read.answer);
+        match read_slip(text) {
+            Ok(slip) => self.take_slip(slip, list),
+            Err(refusal) => self.refused(refusal),
         }
-        self.take_slip(slip, list)
     }
 }

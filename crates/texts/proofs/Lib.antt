@@ -1,5 +1,6 @@
 pub mod Steps
 pub mod Firsts
+pub mod Refusals
 pub mod Laws
 pub mod LawsLeaf
 pub mod LawsGroup

@@ -1,12 +1,12 @@
 -- Where a payee's code stands in the register's text and in the slip's, and what reading the two answered.
 use mathlib.Core.Path.{◌≡◌, refl, sym, ap, ap₂, ◌∙◌}
-use mathlib.Core.Bool.{Bool, true, false, not, ◌&&◌, and-false, false≢true}
+use mathlib.Core.Bool.{Bool, true, false, not, ◌&&◌, and-false}
 use mathlib.Core.Option.{Option, none, some}
 use mathlib.Core.List.{List, [], ◌∷◌, ◌++◌, append_assoc}
 use Prim.Native.Nat.{ℕ, suc, ◌+◌, ◌*◌, ◌≤◌, ◌<◌}
 use native.Mathlib.Omega.{arith}
 use lib.ListN.{length, take, drop, get_or, length-append, length-take}
-use lib.Seq.{take_at, drop-append_seam, take-take, length-take-le, split_at}
+use lib.Seq.{get_or-take, take_at, drop-append_seam, take-take, length-take-le, split_at}
 use lib.Dec.{eqb}
 use borrow.Author.Tests.{eqb-true, eq-eqb, ne_eqb, ltb-true}
 use Rattle.texts.specs.Bounds.{code_places}
@@ -23,9 +23,9 @@ use Rattle.texts.specs.Payee.{before_shop, before_payee, in_register, start_in_r
 use Rattle.texts.specs.declared.code.Code.{Code}
 use Rattle.texts.specs.declared.entry.Entry.{Entry}
 use Rattle.texts.specs.declared.register.Register.{Register}
-use Rattle.texts.specs.declared.register.RegisterRead.{RegisterRead}
+use Rattle.texts.specs.Register.{RegisterRead}
 use Rattle.texts.specs.declared.slip.Slip.{Slip}
-use Rattle.texts.specs.declared.slip.SlipRead.{SlipRead}
+use Rattle.texts.specs.Slip.{SlipRead}
 use Rattle.texts.proofs.Steps.{both, and}
 use Rattle.texts.proofs.LawsLeaf.{digits-length}
 use Rattle.texts.proofs.LawsGroup.{joined-append}
@@ -103,24 +103,36 @@ pub started_none : (shops : List Entry) → Started shops 9 0
 unfolding joined
 started_none shops = record { passed = refl; small = omega arith }
 
-module _ (r : Register) (fits : register_layout.legal r ≡ true) (i : ℕ) (h : i < r.count) (z : Entry) where
-  coded : is_code (get_or r.shops i z).code ≡ true
-  coded = shop-code r (register-fits r fits) i h z
+module _ (r : Register) (fits : register_layout.legal r ≡ true) (p : ℕ) (within : p ≤ r.count) where
+  places : p ≤ length r.shops
+  places = let R = register-fits r fits in omega (arith, R.most, R.places)
 
-  pub shop-few : (get_or r.shops i z).code.len ≤ code_places
-  shop-few = let c = (get_or r.shops i z).code in omega (arith, code-held c coded, eqb-true (length c.digits) code_places (both _ _ coded).0)
+  -- the shop at i, of the first p
+  module _ (i : ℕ) (h : i < length (take p r.shops)) (z : Entry) where
+    abbrev shop : Entry
+    shop = get_or (take p r.shops) i z
 
-  pub started-more : (at : ℕ) → Started r.shops at i → Started r.shops (at + 5 + (get_or r.shops i z).code.len + 8) (i + 1)
-  started-more at q =
-      let R = register-fits r fits in
-      let s = get_or r.shops i z in
-      let e = ap length (joined-more shop_line z r.shops i (omega (arith, R.most, R.places))) ∙ length-append (joined shop_line (take i r.shops)) (shop_line.text s) in
-      let l = entry_length (bytes "shop=") s coded in
-      let few = shop-few in
-      record { passed = omega (arith, q.passed); small = omega (arith, q.small) }
+    pub below-p : i < p
+    below-p = omega (arith, length-take-le p r.shops places)
 
-pub started-done : (r : Register) (at p i : ℕ) → i ≡ p → Started r.shops at i → at + 5 ≡ length (before_shop r p)
-started-done r at p i e q =
+    shop-is : shop ≡ get_or r.shops i z
+    shop-is = get_or-take p r.shops i z below-p
+
+    coded : is_code shop.code ≡ true
+    coded = ap (λ (s : Entry). is_code s.code) shop-is ∙ shop-code r (register-fits r fits) i (omega (arith, below-p)) z
+
+    pub shop-few : shop.code.len ≤ code_places
+    shop-few = let c = shop.code in omega (arith, code-held c coded, eqb-true (length c.digits) code_places (both _ _ coded).0)
+
+    pub started-more : {at : ℕ} → Started r.shops at i → Started r.shops (at + (5 + shop.code.len + 8)) (i + 1)
+    started-more q =
+        let lines = ap length (joined-more shop_line z r.shops i (omega (arith, below-p, places))) ∙ length-append (joined shop_line (take i r.shops)) (shop_line.text (get_or r.shops i z)) in
+        let line = ap (λ (s : Entry). length (shop_line.text s)) (sym shop-is) ∙ entry_length (bytes "shop=") shop coded in
+        let few = shop-few in
+        record { passed = omega (arith, q.passed); small = omega (arith, q.small) }
+
+pub started-done : (r : Register) {at i : ℕ} (p : ℕ) → i ≡ p → Started r.shops at i → at + 5 ≡ length (before_shop r p)
+started-done r {at} p e q =
     let x = joined shop_line (take p r.shops) in
     let h = shops_line.text r.count in
     let a = length-append (h ++ x) (bytes "shop=") in
@@ -178,21 +190,18 @@ module _ (text : List ℕ) (x : RegisterRead) (e : x ≡ register_read text) whe
     in_is : in_register text c ≡ eqb x.answer 0 && listed x.register c
     in_is = ap (λ (y : RegisterRead). eqb y.answer 0 && listed y.register c) (sym e)
 
-    pub spot-there : (t : Bool) (p start : ℕ) → x.answer ≡ 0 → t ≡ listed x.register c → t ≡ true → p ≡ position x.register c → start ≡ length (before_shop x.register p)
-        → (true ≡ in_register text c) × (◌≡◌ {A = Bool} true true → start ≡ start_in_register text c)
-    spot-there t p start h l y q s = (
-      sym (in_is ∙ and _ _ (eq-eqb x.answer 0 h) (sym l ∙ y)),
-      λ _. s ∙ ap (λ k. length (before_shop x.register k)) q ∙ ap (λ r. length (before_shop r (position r c))) (sym register-is),
+    pub spot-there : (t : Bool) {p start : ℕ} → x.answer ≡ 0 → t ≡ listed x.register c → t ≡ true → p ≡ position x.register c → start ≡ length (before_shop x.register p)
+        → (in_register text c ≡ true) × (start ≡ start_in_register text c)
+    spot-there t h l y q s = (
+      in_is ∙ and _ _ (eq-eqb x.answer 0 h) (sym l ∙ y),
+      s ∙ ap (λ k. length (before_shop x.register k)) q ∙ ap (λ r. length (before_shop r (position r c))) (sym register-is),
     )
 
-    pub spot-unlisted : (t : Bool) (start : ℕ) → t ≡ listed x.register c → t ≡ false → (false ≡ in_register text c) × (◌≡◌ {A = Bool} false true → start ≡ start_in_register text c)
-    spot-unlisted t start l n = (
-      sym (in_is ∙ ap (λ b. eqb x.answer 0 && b) (sym l ∙ n) ∙ and-false (eqb x.answer 0)),
-      λ f. absurd (false≢true f),
-    )
+    pub spot-unlisted : (t : Bool) → t ≡ listed x.register c → t ≡ false → in_register text c ≡ false
+    spot-unlisted t l n = in_is ∙ ap (λ b. eqb x.answer 0 && b) (sym l ∙ n) ∙ and-false (eqb x.answer 0)
 
-    pub spot-refused : (start : ℕ) → (x.answer ≡ 0 → ⊥) → (false ≡ in_register text c) × (◌≡◌ {A = Bool} false true → start ≡ start_in_register text c)
-    spot-refused start h = (sym (in_is ∙ ap (λ b. b && listed x.register c) (ne_eqb x.answer 0 h)), λ f. absurd (false≢true f))
+    pub spot-refused : (x.answer ≡ 0 → ⊥) → in_register text c ≡ false
+    spot-refused h = in_is ∙ ap (λ b. b && listed x.register c) (ne_eqb x.answer 0 h)
 
 pub position-within : (r : Register) (c : Code) (p : ℕ) → p ≡ position r c → p ≤ r.count
 position-within r c p e = omega (arith, place-within (shops_of r) c, length-take r.count r.shops)

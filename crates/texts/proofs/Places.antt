@@ -1,23 +1,27 @@
--- Positions of codes, and equal codes, among the shops of a register.
+-- Positions of codes, and equal codes, among shops; the answer to a register.
 use mathlib.Core.Path.{◌≡◌, refl, sym, ap, ◌∙◌}
 use mathlib.Core.Bool.{Bool, true, false, not, ◌||◌}
 use mathlib.Core.List.{List, [], ◌∷◌}
-use Prim.Native.Nat.{ℕ, zero, suc, ◌+◌, ◌-◌, ◌≤◌, ◌<◌}
+use Prim.Native.Nat.{ℕ, ◌+◌, ◌-◌, ◌≤◌, ◌<◌}
 use native.Mathlib.Omega.{arith}
 use native.Mathlib.Decide.{dec_lt}
-use lib.ListN.{length, take, drop, get_or, length-take, length-drop, drop_of_length-le}
-use lib.Seq.{length-take-le, get_or-take}
+use lib.ListN.{length, take, drop, get_or, length-drop, drop_of_length-le}
+use lib.Seq.{take_all}
 use lib.Dec.{ltb}
 use borrow.Author.Tests.{lt-ltb, le-ltb}
-use Rattle.texts.specs.Bounds.{most_shops}
+use Rattle.std.specs.List.{AllWithin, HoldsAt}
+use Rattle.std.specs.Option.{MatchOption, unwrap_or}
+use Rattle.std.specs.Prelude.{Option}
+use Rattle.std.proofs.lemmas.Iterator.{index_from_first}
+use Rattle.std.proofs.lemmas.List.Recursion.{or_is}
 use Rattle.texts.specs.Code.{same_code}
-use Rattle.texts.specs.Register.{place, twins, shops_of, position, listed, shops_rows, register_layout, register_answer}
+use Rattle.texts.specs.Register.{place, among, twins, shops_of, listed, shops_rows, register_layout, register_answer}
 use Rattle.texts.specs.Answers.{Meaning, answer_of}
 use Rattle.texts.specs.declared.code.Code.{Code}
 use Rattle.texts.specs.declared.entry.Entry.{Entry}
 use Rattle.texts.specs.declared.register.Register.{Register}
 use Rattle.texts.proofs.Legal.{place-head, place-later}
-use Rattle.texts.proofs.Values.{left-of}
+use Rattle.texts.proofs.Values.{left-of, eq_code, eq_same}
 use Rattle.texts.proofs.Firsts.{no_rows, applies, passes-by}
 
 -- two numbers stand as two others do, if the one is below the other in both pairs or in neither
@@ -30,137 +34,81 @@ same-order a b c d f g = elim (dec_lt a b) [
     not-below : (a < b → ⊥) → d ≤ c
     not-below h = elim (dec_lt c d) [ yes k ↦ absurd (h (g k)) | no k ↦ omega arith ]
 
--- ---- the first n shops, of which there are as many
+-- ---- looking for a code, as the derived test of two codes finds it
 
-module _ (shops : List Entry) (n : ℕ) (enough : n ≤ length shops) where
-  -- so many are the first n
-  size_is : length (take n shops) ≡ n
-  size_is = length-take-le n shops enough
+module _ (c : Code) where
+  abbrev pub has-code : Entry → Bool
+  has-code s = eq_code s.code c
 
-  -- the shop at i, and those after it
-  rest_of : (i : ℕ) (z : Entry) → i < n → drop i (take n shops) ≡ get_or shops i z ∷ drop (i + 1) (take n shops)
-  rest_of i z h = left-of (take n shops) i z (omega (arith, size_is)) ∙ ap (λ s. s ∷ drop (i + 1) (take n shops)) (get_or-take n shops i z h)
+  -- a first shop and others
+  among_step : (s : Entry) (shops : List Entry) → among (s ∷ shops) c ≡ has-code s || among shops c
+  among_step s shops = go (same_code s.code c) refl
+    where
+      go : (t : Bool) → same_code s.code c ≡ t → among (s ∷ shops) c ≡ has-code s || among shops c
+      go true e = rw (eq_same s.code c, e) (lt-ltb _ _ (omega (arith, place-head s shops c e)))
+      go false e =
+          let l = place-later s shops c e in
+          rw (eq_same s.code c, e) (same-order (place (s ∷ shops) c) (length (s ∷ shops)) (place shops c) (length shops) (λ k. omega arith) (λ k. omega arith))
 
-  -- none is left
-  no-rest : (i : ℕ) → n ≤ i → drop i (take n shops) ≡ []
-  no-rest i h = let l : length (take n shops) ≤ i = omega (arith, size_is) in drop_of_length-le (take n shops) l
+  -- where there are no shops
+  no_place : place [] c ≡ 0
+  unfolding place
+  no_place = refl
 
--- ---- looking for a code from a position on
+  -- the place is the position of the first shop that has the code, or past the last where none has it
+  pub place_is : (shops : List Entry) (r : Option ℕ)
+      → MatchOption r (AllWithin (λ s. has-code s ≡ false) shops 0 (length shops)) (λ i. (i < length shops) × HoldsAt (λ s. has-code s ≡ true) shops i × AllWithin (λ s. has-code s ≡ false) shops 0 i)
+      → place shops c ≡ unwrap_or r (length shops)
+  place_is = index_from_first (λ xs. place xs c) (λ s. has-code s ≡ true) (λ s. has-code s ≡ false) no_place
+      (λ s xs h. place-head s xs c (sym (eq_same s.code c) ∙ h)) (λ s xs h. let l = place-later s xs c (sym (eq_same s.code c) ∙ h) in omega arith)
 
--- the code is not between `from` and i: its position is its position from i on
-pub record Sought (shops : List Entry) (n from : ℕ) (c : Code) (i : ℕ) : Type 0 where
-  pub enough : n ≤ length shops
-  pub within : i ≤ n
-  pub left : from + place (drop from (take n shops)) c ≡ i + place (drop i (take n shops)) c
-
--- none is looked at yet
-pub sought-none : (shops : List Entry) (n from : ℕ) (c : Code) → n ≤ length shops → from ≤ n → Sought shops n from c from
-sought-none shops n from c l h = record { enough = l; within = h; left = refl }
-
--- where there are no shops
-no_place : (c : Code) → place [] c ≡ 0
-unfolding place
-no_place c = refl
-
-module _ {shops : List Entry} {n from : ℕ} {c : Code} {i : ℕ} (s : Sought shops n from c i) where
-  module _ (z : Entry) (h : i < n) (t : Bool) (e : t ≡ same_code (get_or shops i z).code c) where
-    -- the position from i on, with the shop at i taken apart
-    here : place (drop i (take n shops)) c ≡ place (get_or shops i z ∷ drop (i + 1) (take n shops)) c
-    here = ap (λ l. place l c) (rest_of shops n s.enough i z h)
-
-    -- the shop has another code: one more
-    pub sought-more : t ≡ false → Sought shops n from c (i + 1)
-    sought-more y =
-        let p = place-later (get_or shops i z) (drop (i + 1) (take n shops)) c (sym e ∙ y) in
-        record { enough = s.enough; within = omega arith; left = omega (arith, s.left, here, p) }
-
-    -- it is there
-    pub sought-found : t ≡ true → i ≡ from + place (drop from (take n shops)) c
-    sought-found y =
-        let p = place-head (get_or shops i z) (drop (i + 1) (take n shops)) c (sym e ∙ y) in
-        omega (arith, s.left, here, p)
-
-  -- it is nowhere
-  pub sought-done : n ≤ i → i ≡ from + place (drop from (take n shops)) c
-  sought-done h = omega (arith, s.left, ap (λ l. place l c) (no-rest shops n s.enough i h) ∙ no_place c)
+  -- what `any` answered is whether the code is there
+  pub among_is : (shops : List Entry) (z : Entry) (t : Bool) → (t ≡ true → (i : ℕ) × (i < length shops) × (has-code (get_or shops i z) ≡ true))
+      → (t ≡ false → (i : ℕ) → i < length shops → has-code (get_or shops i z) ≡ false) → t ≡ among shops c
+  among_is = or_is (λ xs. among xs c) has-code (le-ltb _ _ (omega arith)) among_step
 
 -- ---- looking for equal codes
 
 -- no shop before i has its code again after it: the shops from i on decide
-pub record Single (shops : List Entry) (n i : ℕ) : Type 0 where
-  pub enough : n ≤ length shops
-  pub within : i ≤ n
-  pub left : twins (take n shops) ≡ twins (drop i (take n shops))
+pub record Single (shops : List Entry) (i : ℕ) : Type 0 where
+  pub left : twins shops ≡ twins (drop i shops)
 
 -- no shop is asked yet
-pub single-none : (shops : List Entry) (n : ℕ) → n ≤ length shops → Single shops n 0
-single-none shops n l = record { enough = l; within = omega arith; left = refl }
+pub single-none : (shops : List Entry) → Single shops 0
+single-none shops = record { left = refl }
 
 -- where there are no shops
 no-twins : twins [] ≡ false
 unfolding twins
 no-twins = refl
 
-module _ {shops : List Entry} {n i : ℕ} (s : Single shops n i) where
-  -- p is where the code of the shop at i stands after it
-  module _ (z : Entry) (h : i < n) (p : ℕ) (e : p ≡ i + 1 + place (drop (i + 1) (take n shops)) (get_or shops i z).code) where
+module _ {shops : List Entry} {i : ℕ} (s : Single shops i) where
+  -- its code is sought among all that stand after it
+  module _ (z : Entry) (h : i < length shops) (t : Bool) (e : t ≡ among (take (length shops - (i + 1)) (drop (i + 1) shops)) (get_or shops i z).code) where
     -- the shop at i, and those after it
-    after : twins (take n shops) ≡ ltb p n || twins (drop (i + 1) (take n shops))
+    after : twins shops ≡ t || twins (drop (i + 1) shops)
     unfolding twins
     after =
-        let rest : List Entry = drop (i + 1) (take n shops) in
-        let l : length rest ≡ n - (i + 1) = length-drop (i + 1) (take n shops) ∙ ap (λ k. k - (i + 1)) (size_is shops n s.enough) in
-        s.left ∙ ap twins (rest_of shops n s.enough i z h)
-        ∙ ap (λ b. b || twins rest) (same-order (place rest (get_or shops i z).code) (length rest) p n (λ k. omega arith) (λ k. omega arith))
+        let later = drop (i + 1) shops in
+        let all : take (length shops - (i + 1)) later ≡ later = take_all (length shops - (i + 1)) later (omega (arith, length-drop (i + 1) shops)) in
+        s.left ∙ ap twins (left-of shops i z h) ∙ ap (λ b. b || twins later) (sym (e ∙ ap (λ l. among l (get_or shops i z).code) all))
 
     -- it stands there no more: one more shop
-    pub single_more : n ≤ p → Single shops n (i + 1)
-    single_more y = record { enough = s.enough; within = omega arith; left = after ∙ ap (λ b. b || twins (drop (i + 1) (take n shops))) (le-ltb p n y) }
+    pub single_more : t ≡ false → Single shops (i + 1)
+    single_more y = record { left = after ∙ ap (λ b. b || twins (drop (i + 1) shops)) y }
 
     -- it stands there
-    pub single-twin : p < n → true ≡ twins (take n shops)
-    single-twin y = sym (after ∙ ap (λ b. b || twins (drop (i + 1) (take n shops))) (lt-ltb p n y))
+    pub single-twin : t ≡ true → true ≡ twins shops
+    single-twin y = sym (after ∙ ap (λ b. b || twins (drop (i + 1) shops)) y)
 
   -- no shop is left
-  pub single-done : n ≤ i → false ≡ twins (take n shops)
-  single-done h = sym (s.left ∙ ap twins (no-rest shops n s.enough i h) ∙ no-twins)
-
--- ---- the shops of a register
-
--- as many as are counted
-pub size_less : (r : Register) → length r.shops ≡ most_shops → r.count ≤ most_shops → r.count ≡ length (shops_of r)
-size_less r l h = sym (length-take-le r.count r.shops (omega arith))
-
--- all, where more are counted
-pub size-all : (r : Register) → length r.shops ≡ most_shops → most_shops < r.count → most_shops ≡ length (shops_of r)
-size-all r l h = omega (arith, length-take r.count r.shops)
-
--- as many as a list's front has make that front
-front : {A : Type 0} (n : ℕ) (xs : List A) → take (length (take n xs)) xs ≡ take n xs
-front zero xs = refl
-front (suc n) [] = refl
-front (suc n) (x ∷ xs) = ap (λ l. x ∷ l) (front n xs)
-
--- the first so many are the shops in use
-pub in_use_lem : (r : Register) (n : ℕ) → n ≡ length (shops_of r) → take n r.shops ≡ shops_of r
-in_use_lem r n e = ap (λ k. take k r.shops) e ∙ front r.count r.shops
-
--- a code's position, looked for from the first
-pub position-is : (r : Register) (c : Code) (n p : ℕ) → n ≡ length (shops_of r) → p ≡ 0 + place (drop 0 (take n r.shops)) c → p ≡ position r c
-position-is r c n p h e = omega (arith, e, ap (λ l. place l c) (in_use_lem r n h))
-
--- is the code listed, from its position and the number of shops
-pub lists-is : (r : Register) (c : Code) (p n : ℕ) → p ≡ position r c → n ≡ length (shops_of r) → ltb p n ≡ listed r c
-lists-is r c p n e h = cc
+  pub single-done : length shops ≤ i → false ≡ twins shops
+  single-done h = sym (s.left ∙ ap twins (drop_of_length-le shops h) ∙ no-twins)
 
 -- ---- the answer to a register
 
--- the rows after the first, from the tests that the code makes: t, equal codes among its n shops, and l, its own code listed
-module _ (r : Register) (n : ℕ) (h : n ≡ length (shops_of r)) (t : Bool) (e : t ≡ twins (take n r.shops)) where
-  -- the test is of the shops in use
-  twins-is : t ≡ twins (shops_of r)
-  twins-is = e ∙ ap twins (in_use_lem r n h)
-
+-- the rows after the first, from the tests that the code makes: t, equal codes among its shops, and l, its own code listed
+module _ (r : Register) (t : Bool) (twins-is : t ≡ twins (shops_of r)) where
   -- equal codes: 12
   pub shops-twin : t ≡ true → 12 ≡ answer_of (shops_rows r)
   shops-twin y = sym (applies Meaning.twin _ _ (sym twins-is ∙ y))

@@ -21,7 +21,7 @@ use Rattle.texts.specs.Promises.{OneToOne, RegistersOneToOne, SlipsOneToOne, Reg
 use Rattle.texts.specs.Bytes.{same_bytes}
 use Rattle.texts.specs.Code.{code, is_code, same_code, spelled, code_of}
 use Rattle.texts.specs.Entries.{no_entry}
-use Rattle.texts.specs.declared.pen.Written.{Written}
+use Rattle.texts.specs.Written.{Written}
 use Rattle.texts.specs.declared.register.Register.{Register}
 use Rattle.texts.specs.declared.slip.Slip.{Slip}
 use Rattle.texts.proofs.Steps.{both, all-at, same_bytes_lem, bytes_same}

@@ -1,16 +1,17 @@
 -- What the function that shows a payee returns: the part that is promised, within its text.
 use mathlib.Core.Path.{◌≡◌, sym, ap, ◌∙◌}
-use mathlib.Core.Bool.{Bool, true, false}
+use mathlib.Core.Bool.{true, false}
 use mathlib.Core.List.{List}
 use Prim.Native.Nat.{ℕ, ◌+◌, ◌-◌, ◌≤◌}
 use native.Mathlib.Omega.{arith}
 use lib.ListN.{length, take, drop}
+use mathlib.Core.Option.{some}
 use lib.Dec.{eqb}
 use borrow.Author.Tests.{eqb-true}
 use Rattle.texts.specs.Register.{register_read}
-use Rattle.texts.specs.Slip.{slip_read}
+use Rattle.texts.specs.Slip.{slip_in, slip_read}
 use Rattle.texts.specs.Payee.{Part, source, shown, placed, in_register, start_in_register, payee_part}
-use Rattle.texts.specs.declared.slip.SlipRead.{SlipRead}
+use Rattle.texts.specs.Slip.{SlipRead}
 use Rattle.texts.proofs.Steps.{both}
 use Rattle.texts.proofs.Payees.{slip-carried, slip-missing, slip-form, register-room, slip-start, slip-room}
 use Rattle.texts.proofs.Promises.{listed-in-register, in-slip-otherwise, empty-without-slip}
@@ -36,26 +37,23 @@ module _ (register slip : List ℕ) (x : SlipRead) (e : x ≡ slip_read slip) wh
   pub shows-none : (x.answer ≡ 0 → ⊥) → Shows register slip (record { of_register = false; start = 0; size = 0 })
   shows-none h = record { is = empty-without-slip register slip (slip-form slip (slip-missing slip x e h)); room = omega arith }
 
-  module _ (h : x.answer ≡ 0) (t : Bool) (start : ℕ)
-      (spot : (t ≡ in_register register x.slip.payee) × (t ≡ true → start ≡ start_in_register register x.slip.payee)) where
+  module _ (h : x.answer ≡ 0) where
+    carried : slip_in slip ≡ some x.slip
+    carried = slip-carried slip x e h
+
     -- the register lists the payee: there
-    pub shows-listed : t ≡ true → Shows register slip (record { of_register = true; start = start; size = x.slip.payee.len })
-    shows-listed y =
-        let carried = slip-carried slip x e h in
-        let i = sym spot.0 ∙ y in
-        let k = both (eqb (register_read register).answer 0) _ i in
-        let s = spot.1 y in
+    pub shows-listed : (start : ℕ) → (in_register register x.slip.payee ≡ true) × (start ≡ start_in_register register x.slip.payee)
+        → Shows register slip (record { of_register = true; start = start; size = x.slip.payee.len })
+    shows-listed start spot =
+        let k = both (eqb (register_read register).answer 0) _ spot.0 in
         record {
-          is = listed-in-register register slip x.slip carried (eqb-true _ 0 k.0) k.1 ∙ ap (λ n. record { of_register = true; start = n; size = x.slip.payee.len }) (sym s);
-          room = omega (arith, register-room slip x.slip carried register i);
+          is = listed-in-register register slip x.slip carried (eqb-true _ 0 k.0) k.1 ∙ ap (λ n. record { of_register = true; start = n; size = x.slip.payee.len }) (sym spot.1);
+          room = omega (arith, register-room slip x.slip carried register spot.0);
         }
 
     -- it does not: in the slip
-    pub shows-unlisted : t ≡ false → Shows register slip (record { of_register = false; start = 6 + x.slip.payer.len + 21; size = x.slip.payee.len })
-    shows-unlisted n =
-        let carried = slip-carried slip x e h in
-        record {
-          is = in-slip-otherwise register slip x.slip carried (sym spot.0 ∙ n)
-              ∙ ap (λ n. record { of_register = false; start = n; size = x.slip.payee.len }) (sym (slip-start slip x.slip carried));
-          room = slip-room slip x.slip carried;
-        }
+    pub shows-unlisted : in_register register x.slip.payee ≡ false → Shows register slip (record { of_register = false; start = 6 + x.slip.payer.len + 21; size = x.slip.payee.len })
+    shows-unlisted n = record {
+      is = in-slip-otherwise register slip x.slip carried n ∙ ap (λ n. record { of_register = false; start = n; size = x.slip.payee.len }) (sym (slip-start slip x.slip carried));
+      room = slip-room slip x.slip carried;
+    }

@@ -1,27 +1,29 @@
 -- What the tests of values come to: the places of an array one after the other, codes, entries, registers and slips.
 use mathlib.Core.Path.{◌≡◌, refl, sym, ap, ◌∙◌}
-use mathlib.Core.Bool.{Bool, true, false, not, ◌&&◌, and_assoc, and-false, and-true, false≢true}
+use mathlib.Core.Bool.{Bool, true, false, ◌&&◌, and_comm, and-true, false≢true}
 use mathlib.Core.List.{List, [], ◌∷◌, ◌++◌, map}
 use Prim.Native.Nat.{ℕ, zero, suc, ◌+◌, ◌-◌, ◌≤◌, ◌<◌}
 use native.Mathlib.Omega.{arith}
 use native.Mathlib.Numerals.{add-one}
-use lib.ListN.{length, take, drop, get_or, replicate, drop_of_length-le, length-map}
-use lib.Seq.{drop-cons, take-nil, drop-nil, take_at, take-length, length-take-le}
-use lib.Dec.{leb, ltb, eqb, eqb-suc-zero, eqb-zero-suc}
-use borrow.Author.Tests.{leb-true, lt-ltb, le-ltb, eq-eqb, ne_eqb, not-true, not-false}
+use lib.ListN.{length, take, drop, get_or, replicate, length-map}
+use lib.Seq.{drop-cons, take_at, take-length, length-take-le}
+use lib.Dec.{leb, eqb, eqb-suc-zero, eqb-zero-suc}
+use borrow.Author.Tests.{leb-true, eq-eqb}
+use lib.Pointwise.{pointwise}
+use Rattle.std.proofs.lemmas.List.Recursion.{and_is}
 use Rattle.texts.specs.Bounds.{most, most_deps, most_shops, code_places}
 use Rattle.texts.specs.Bytes.{same_bytes, all_of}
 use Rattle.texts.specs.Leaf.{digit, run}
 use Rattle.texts.specs.Code.{no_code, is_code, same_code, spelled, code_of}
-use Rattle.texts.specs.Entries.{is_entry, zero_entry}
+use Rattle.texts.specs.Entries.{no_entry, is_entry, zero_entry}
 use Rattle.texts.specs.Register.{shops_line, shop_lines, register_layout}
 use Rattle.texts.specs.Slip.{slip_layout}
-use Rattle.texts.specs.Inside.{Held, passes}
+use Rattle.texts.specs.Inside.{Held}
 use Rattle.texts.specs.declared.code.Code.{Code}
 use Rattle.texts.specs.declared.entry.Entry.{Entry}
 use Rattle.texts.specs.declared.register.Register.{Register}
 use Rattle.texts.specs.declared.slip.Slip.{Slip}
-use Rattle.texts.proofs.Steps.{both, and, below, above, within}
+use Rattle.texts.proofs.Steps.{both, below, within}
 use Rattle.texts.proofs.LawsLeaf.{run_only}
 use Rattle.texts.proofs.Legal.{SlipLegal, slip-legal, RegisterFits, register-fits}
 
@@ -36,13 +38,13 @@ fails false h = refl
 pub skip : (a b t : Bool) → a ≡ true → t ≡ b → t ≡ a && b
 skip a b t h e = e ∙ sym (ap (λ x. x && b) h)
 
+-- a test that fails, and another after it
+pub stop : (a b t : Bool) → t ≡ a → t ≡ false → t ≡ a && b
+stop a b t e h = h ∙ sym (ap (λ x. x && b) (sym e ∙ h))
+
 -- a test that fails and passes
 pub clash : (t u : Bool) → t ≡ u → t ≡ false → u ≡ true → ⊥
 clash t u e n y = false≢true (sym n ∙ e ∙ y)
-
--- a place is used or not: the test for that kind of place decides
-pub passes_at : {A : Type 0} (used unused : A → Bool) (t : Bool) (x : A) (r u : Bool) → t ≡ u → r ≡ passes used unused u x → r ≡ passes used unused t x
-passes_at used unused t x r u h e = e ∙ sym (ap (λ b. passes used unused b x) h)
 
 -- a number is zero, either way round
 pub zero_test : (n : ℕ) → eqb n 0 ≡ eqb 0 n
@@ -53,121 +55,44 @@ zero_test (suc n) = eqb-suc-zero n ∙ sym (eqb-zero-suc n)
 pub length-mapped : {A B : Type 0} (f : A → B) (xs : List A) (n : ℕ) → length (map f xs) ≡ n → length xs ≡ n
 length-mapped f xs n e = sym (length-map xs f) ∙ e
 
+-- what `all` answered of a slice is whether the test passes at every one of it
+pub all_is : {A : Type 0} (test : A → Bool) (xs : List A) (z : A) (t : Bool) → (t ≡ true → (i : ℕ) → i < length xs → test (get_or xs i z) ≡ true)
+    → (t ≡ false → (i : ℕ) × (i < length xs) × (test (get_or xs i z) ≡ false)) → t ≡ all_of test xs
+unfolding all_of
+all_is test = and_is (all_of test) test refl (λ _ _. refl)
+
+-- the same of a test for zero, which the program writes the other way round
+pub zeros_are : {t : Bool} (xs : List ℕ) → (t ≡ true → (i : ℕ) → i < length xs → eqb (get_or xs i 0) 0 ≡ true)
+    → (t ≡ false → (i : ℕ) × (i < length xs) × (eqb (get_or xs i 0) 0 ≡ false)) → t ≡ all_of (eqb 0) xs
+zeros_are {t} xs y n = all_is (eqb 0) xs 0 t (λ h i l. sym (zero_test (get_or xs i 0)) ∙ y h i l) (λ h. let w = n h in (w.0, w.1, sym (zero_test (get_or xs w.0 0)) ∙ w.2))
+
 -- ---- one more place
 
 -- what is left of a list from a place on: what stands there, and what is left after it
 pub left-of : {A : Type 0} (xs : List A) (i : ℕ) (z : A) → i < length xs → drop i xs ≡ get_or xs i z ∷ drop (i + 1) xs
 left-of xs i z h = rw (add-one, drop-cons xs i z)
 
--- ---- the places of an array: the first n pass the one test, the others the other
-
-module _ {A : Type 0} (used unused : A → Bool) where
-  -- every place passes its test
-  abbrev pub all_pass : ℕ → List A → Bool
-  all_pass n xs = all_of used (take n xs) && all_of unused (drop n xs)
-
-  -- the first place, and the others
-  next_place : (n i m : ℕ) → n - i ≡ m → (x : A) (xs : List A) → all_pass m (x ∷ xs) ≡ passes used unused (ltb i n) x && all_pass (n - (i + 1)) xs
-  unfolding all_of
-  next_place n i zero e x xs =
-      let t : ltb i n ≡ false = le-ltb i n (omega arith) in
-      let k : n - (i + 1) ≡ 0 = omega arith in
-      rw (t, k)
-  next_place n i (suc m) e x xs =
-      let t : ltb i n ≡ true = lt-ltb i n (omega arith) in
-      let k : n - (i + 1) ≡ m = omega arith in
-      rw (t, k) (and_assoc (used x) (all_of used (take m xs)) (all_of unused (drop m xs)))
-
-  -- the places before i pass: the places from i on decide
-  pub record Passed (n : ℕ) (xs : List A) (i : ℕ) : Type 0 where
-    pub left : all_pass n xs ≡ all_pass (n - i) (drop i xs)
-
-  -- no place is asked yet
-  pub passed_none : (n : ℕ) (xs : List A) → Passed n xs 0
-  passed_none n xs = let e : n ≡ n - 0 = omega arith in record { left = ap (λ k. all_pass k xs) e }
-
-module _ {A : Type 0} {used unused : A → Bool} {n : ℕ} {xs : List A} {i : ℕ} (p : Passed used unused n xs i) where
-  module _ (z : A) (h : i < length xs) (t : Bool) (e : t ≡ passes used unused (ltb i n) (get_or xs i z)) where
-    -- the place at i, whose test comes to t, and those after it
-    at_place : all_pass used unused n xs ≡ t && all_pass used unused (n - (i + 1)) (drop (i + 1) xs)
-    at_place =
-        p.left
-        ∙ ap (all_pass used unused (n - i)) (left-of xs i z h)
-        ∙ next_place used unused n i (n - i) refl (get_or xs i z) (drop (i + 1) xs)
-        ∙ ap (λ b. b && all_pass used unused (n - (i + 1)) (drop (i + 1) xs)) (sym e)
-
-    -- the place passes: one more
-    pub passed-more : not t ≡ false → Passed used unused n xs (i + 1)
-    passed-more y = record { left = at_place ∙ ap (λ b. b && all_pass used unused (n - (i + 1)) (drop (i + 1) xs)) (not-false t y) }
-
-    -- the place does not pass
-    pub passed-fails : not t ≡ true → false ≡ all_pass used unused n xs
-    passed-fails y = sym (at_place ∙ ap (λ b. b && all_pass used unused (n - (i + 1)) (drop (i + 1) xs)) (not-true t y))
-
-  -- no place is left
-  pub passed-done : length xs ≤ i → true ≡ all_pass used unused n xs
-  unfolding all_of
-  passed-done h =
-      let e : drop i xs ≡ [] = drop_of_length-le xs h in
-      sym (p.left ∙ ap (all_pass used unused (n - i)) e ∙ rw (take-nil, drop-nil))
-
 -- ---- codes
 
--- what is left of two texts decides whether they are the same
-pub record Agree (xs ys : List ℕ) (i : ℕ) : Type 0 where
-  pub left : same_bytes xs ys ≡ same_bytes (drop i xs) (drop i ys)
+-- the derived test of two codes: the digits and then the length
+same_bytes_is : (xs ys : List ℕ) → pointwise eqb xs ys ≡ same_bytes xs ys
+unfolding same_bytes
+same_bytes_is [] [] = refl
+same_bytes_is [] (y ∷ ys) = refl
+same_bytes_is (x ∷ xs) [] = refl
+same_bytes_is (x ∷ xs) (y ∷ ys) = ap (λ t. eqb x y && t) (same_bytes_is xs ys)
 
--- no place is compared yet
-pub agree-none : (xs ys : List ℕ) → Agree xs ys 0
-agree-none xs ys = record { left = refl }
+abbrev pub eq_code : Code → Code → Bool
+eq_code a b = pointwise eqb a.digits b.digits && eqb a.len b.len
 
-module _ {xs ys : List ℕ} {i : ℕ} (a : Agree xs ys i) (h : i < length xs) (l : i < length ys) where
-  -- the two at i, and what is left after them
-  agree_at : same_bytes xs ys ≡ eqb (get_or xs i 0) (get_or ys i 0) && same_bytes (drop (i + 1) xs) (drop (i + 1) ys)
-  unfolding same_bytes
-  agree_at = a.left ∙ rw (left-of xs i 0 h, left-of ys i 0 l)
-
-  -- they are equal there: one more
-  pub agree-more : get_or xs i 0 ≡ get_or ys i 0 → Agree xs ys (i + 1)
-  agree-more e = record { left = agree_at ∙ ap (λ b. b && same_bytes (drop (i + 1) xs) (drop (i + 1) ys)) (eq-eqb (get_or xs i 0) (get_or ys i 0) e) }
-
-  -- a place where they differ
-  agree-not : (get_or xs i 0 ≡ get_or ys i 0 → ⊥) → same_bytes xs ys ≡ false
-  agree-not e = agree_at ∙ ap (λ b. b && same_bytes (drop (i + 1) xs) (drop (i + 1) ys)) (ne_eqb (get_or xs i 0) (get_or ys i 0) e)
-
-module _ (a b : Code) {i : ℕ} (agree : Agree a.digits b.digits i) where
-  -- codes that differ in a place
-  pub same_not : i < length a.digits → i < length b.digits → (get_or a.digits i 0 ≡ get_or b.digits i 0 → ⊥) → false ≡ same_code a b
-  unfolding same_code
-  same_not h l e = sym (ap (λ t. eqb a.len b.len && t) (agree-not agree h l e) ∙ and-false (eqb a.len b.len))
-
-  -- no place is left
-  pub same-all : length a.digits ≤ i → length b.digits ≤ i → a.len ≡ b.len → true ≡ same_code a b
-  unfolding same_code same_bytes
-  same-all h l e = sym (and (eqb a.len b.len) _ (eq-eqb _ _ e) (agree.left ∙ rw (drop_of_length-le a.digits h, drop_of_length-le b.digits l)))
-
--- codes of two lengths
-pub same_len : (a b : Code) → (a.len ≡ b.len → ⊥) → false ≡ same_code a b
+pub eq_same : (a b : Code) → eq_code a b ≡ same_code a b
 unfolding same_code
-same_len a b e = sym (ap (λ t. t && same_bytes a.digits b.digits) (ne_eqb a.len b.len e))
+eq_same a b = and_comm (pointwise eqb a.digits b.digits) (eqb a.len b.len) ∙ ap (λ t. eqb a.len b.len && t) (same_bytes_is a.digits b.digits)
 
--- a code's places are eight
-module _ (c : Code) (places : length c.digits ≡ code_places) where
-  -- what is left to ask of it
-  code_is : is_code c ≡ (leb 1 c.len && leb c.len code_places) && all_pass digit (eqb 0) c.len c.digits
-  code_is = ap (λ t. t && ((leb 1 c.len && leb c.len code_places) && all_pass digit (eqb 0) c.len c.digits)) (eq-eqb _ _ places)
-
-  -- a code of no digit
-  pub code-few : c.len < 1 → false ≡ is_code c
-  code-few h = sym (code_is ∙ below 1 c.len code_places (all_pass digit (eqb 0) c.len c.digits) h)
-
-  -- a code of too many
-  pub code-many : code_places < c.len → false ≡ is_code c
-  code-many h = sym (code_is ∙ above 1 c.len code_places (all_pass digit (eqb 0) c.len c.digits) h)
-
-  -- its places decide
-  pub code-rest : 1 ≤ c.len → c.len ≤ code_places → (t : Bool) → t ≡ all_pass digit (eqb 0) c.len c.digits → t ≡ is_code c
-  code-rest h l t e = e ∙ sym (code_is ∙ within 1 c.len code_places (all_pass digit (eqb 0) c.len c.digits) h l)
+-- a code's places are eight, and it counts one to eight digits: its places decide
+pub code-rest : (c : Code) → length c.digits ≡ code_places → 1 ≤ c.len → c.len ≤ code_places
+    → (t : Bool) → t ≡ all_of digit (take c.len c.digits) && all_of (eqb 0) (drop c.len c.digits) → t ≡ is_code c
+code-rest c places some few t e = skip _ _ t (eq-eqb _ _ places) (e ∙ sym (within 1 c.len code_places _ some few))
 
 -- ---- a code from bytes
 
@@ -240,22 +165,9 @@ module _ (s : List ℕ) (c : Code) (q : Held s c) where
 
 -- ---- entries
 
-module _ (e : Entry) where
-  -- the number can stand in a line: the code decides
-  pub entry-fits : e.number ≤ most → is_code e.code ≡ is_entry e
-  entry-fits h = sym (ap (λ t. is_code e.code && t) (within 0 e.number most true (omega arith) h) ∙ and-true (is_code e.code))
-
-  -- it cannot
-  pub entry-large : most < e.number → false ≡ is_entry e
-  entry-large h = sym (ap (λ t. is_code e.code && t) (above 0 e.number most true h) ∙ and-false (is_code e.code))
-
-  -- the number is 0: the code decides
-  pub entry_zero : e.number ≡ 0 → (z : Code) → z ≡ no_code → same_code e.code z ≡ zero_entry e
-  entry_zero h z i = ap (same_code e.code) i ∙ sym (ap (λ t. same_code e.code no_code && t) (eq-eqb e.number 0 h) ∙ and-true (same_code e.code no_code))
-
-  -- it is not
-  pub entry-not-zero : (e.number ≡ 0 → ⊥) → false ≡ zero_entry e
-  entry-not-zero h = sym (ap (λ t. same_code e.code no_code && t) (ne_eqb e.number 0 h) ∙ and-false (same_code e.code no_code))
+-- the derived test of an entry and the one of zeros
+pub eq_zero_entry : (e z : Entry) → z ≡ no_entry → eq_code e.code z.code && eqb e.number z.number ≡ zero_entry e
+eq_zero_entry e z h = ap (λ (u : Entry). eq_code e.code u.code && eqb e.number u.number) h ∙ ap (λ t. t && eqb e.number 0) (eq_same e.code no_code)
 
 -- ---- registers and slips
 

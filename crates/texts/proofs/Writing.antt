@@ -1,15 +1,15 @@
--- Writing into a lent buffer: one text after the other, and the two loops that write a word and a number byte by byte.
+-- Writing into a lent buffer: one text after the other, and the loop that writes a number digit by digit.
 use mathlib.Core.Path.{◌≡◌, refl, sym, ap, ap₂, ◌∙◌, subst}
 use mathlib.Core.List.{List, [], ◌∷◌, ◌++◌, append_assoc}
 use Prim.Native.Nat.{ℕ, suc, ◌+◌, ◌-◌, ◌/◌, ◌%◌, ◌≤◌, ◌<◌}
 use native.Mathlib.Omega.{arith}
 use native.Mathlib.Nat.{add-suc, add-zero, zero-add}
-use native.Mathlib.Numerals.{add-one}
 use lib.ListN.{length, take, drop, get_or, set, length-append, length-set, take-append-drop, drop_of_length-le}
-use lib.Seq.{paste, paste-zero, paste-suc, take-length, take_at, drop-append-add, drop-drop, length-take-le, take_all, get_or-take, get_or_at, take-take, set-append_left, take-set-lt, take-suc-set, drop-cons}
+use lib.Seq.{paste-zero, take_at, drop-append-add, drop-drop, length-take-le, take_all, get_or-take, get_or_at, take-take, set-append_left, take-set-lt, take-suc-set, drop-cons}
 use Rattle.texts.specs.Leaf.{digits}
 use Rattle.texts.specs.Written.{over}
-use Rattle.texts.specs.Inside.{Room, Wrote}
+use Rattle.texts.specs.Inside.{Room, Wrote, Writes}
+use Rattle.texts.specs.declared.pen.Pen.{Pen}
 use Rattle.texts.proofs.LawsLeaf.{digits-length}
 
 -- ---- one text after the other
@@ -39,46 +39,20 @@ wrote_then {d} {d₁} {d₂} {a} {a₁} {a₂} {t} {u} w v =
       holds = v.holds ∙ ap₂ (λ f b. f ++ u ++ b) front back ∙ ap (λ f. f ++ drop (a + length (t ++ u)) d) (append_assoc (take a d) t u);
     }
 
+-- The same of a pen.
+pub writes_then : {p q r : Pen} {t u : List ℕ} → Writes p q t → Writes q r u → Writes p r (t ++ u)
+writes_then w v = record { same_page = v.same_page ∙ w.same_page; wrote = wrote_then w.wrote v.wrote }
+
 -- Nothing is written.
 pub wrote_nothing : (d : List ℕ) (at : ℕ) → at ≤ length d → Wrote d at [] d at
 wrote_nothing d at h = record { fits = omega arith; past = omega arith; size = refl; holds = paste-zero d at [] }
 
+pub writes_nothing : (p : Pen) → p.at ≤ length p.page.now → Writes p p []
+writes_nothing p h = record { same_page = refl; wrote = wrote_nothing p.page.now p.at h }
+
 -- What is written from the front on stands over the buffer.
 pub wrote-over : {d d' : List ℕ} {n : ℕ} (t : List ℕ) → Wrote d 0 t d' n → (n ≡ length t) × (d' ≡ over t d)
 wrote-over {d} t w = (w.past ∙ zero-add (length t), w.holds ∙ ap (λ k. t ++ drop k d) (zero-add (length t)))
-
--- ---- a word, from its first byte to its last
-
--- The first i bytes of w are written into d from `at` on, which has given b.
-pub record Copied (d : List ℕ) (at : ℕ) (w b : List ℕ) (i : ℕ) : Type 0 where
-  pub most : i ≤ length w
-  pub room : at + length w ≤ length d
-  pub size : length b ≡ length d
-  pub holds : b ≡ paste d at w i
-
--- None is.
-pub copied_none : {d : List ℕ} {at : ℕ} {w : List ℕ} → Room d at w → Copied d at w d 0
-copied_none {d} {at} {w} room = record { most = omega arith; room = room.fits; size = refl; holds = paste-zero d at w }
-
--- One more.
-pub copied_more : {d : List ℕ} {at : ℕ} {w b : List ℕ} {i : ℕ} → Copied d at w b i → i < length w → Copied d at w (set b (at + i) (get_or w i 0)) (i + 1)
-copied_more {d} {at} {w} {b} {i} q h = record {
-  most = omega arith;
-  room = q.room;
-  size = length-set b (at + i) (get_or w i 0) ∙ q.size;
-  holds = rw (q.holds, add-one i) (paste-suc d at w i 0 (omega arith) h);
-}
-
--- All are.
-pub copied-done : {d : List ℕ} {at : ℕ} {w b : List ℕ} {i : ℕ} → Copied d at w b i → length w ≤ i → Wrote d at w b (at + i)
-copied-done {d} {at} {w} {b} {i} q h =
-    let n : i ≡ length w = omega arith in
-    record {
-      fits = q.room;
-      past = omega arith;
-      size = q.size;
-      holds = q.holds ∙ ap (λ k. paste d at w k) n ∙ ap (λ t. take at d ++ t ++ drop (at + length w) d) (take-length w);
-    }
 
 -- ---- a number, from its last digit to its first
 

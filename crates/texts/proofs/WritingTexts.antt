@@ -8,14 +8,17 @@ use lib.Dec.{ltb}
 use lib.ListN.{length}
 use borrow.Author.Tests.{lt-ltb, le-ltb, not-false}
 use Rattle.texts.specs.Bounds.{register_room, slip_room}
-use Rattle.texts.specs.Answers.{Row, answer_of, form, room}
-use Rattle.texts.specs.Written.{over, answered, buffered}
+use Rattle.std.proofs.Common.{Result}
+use Rattle.std.specs.Result.{IsErrAnd}
+use Rattle.texts.specs.Answers.{Row, answer_of, form, room, refusal_number}
+use Rattle.texts.specs.Written.{Written, written, over, answered, buffered}
 use Rattle.texts.specs.Register.{register_layout, register_answer}
 use Rattle.texts.specs.Slip.{slip_layout, slip_write_answer, slip_written, slip_buffer}
 use Rattle.texts.specs.Inside.{Room, Wrote}
-use Rattle.texts.specs.declared.pen.Written.{Written}
+use Rattle.texts.specs.declared.answers.Refusal.{Refusal}
 use Rattle.texts.specs.declared.register.Register.{Register}
 use Rattle.texts.specs.declared.slip.Slip.{Slip}
+use Rattle.texts.proofs.Refusals.{not-done, handed-on}
 use Rattle.texts.proofs.Firsts.{first-zero, no_rows, applies, passes-by}
 use Rattle.texts.proofs.Lengths.{register-most, slip-most}
 use Rattle.texts.proofs.Writing.{wrote-over}
@@ -51,22 +54,27 @@ module _ (least : ℕ) (rows : List Row) (text d : List ℕ) where
   small h = refused _ text d 11 (applies room _ rows (lt-ltb (length d) least h)) (λ e. omega arith)
 
   -- a value that one of its rows refuses, and one that none does
-  module _ (h : least ≤ length d) (n : ℕ) (e : n ≡ answer_of rows) where
-    pub kept : (n ≡ 0 → ⊥) → (◌≡◌ {A = Written} (record { answer = n; count = 0 }) (answered (lent_answer least rows d) text)) × (d ≡ buffered (lent_answer least rows d) text d)
-    kept bad = refused _ text d n (there least rows d h ∙ sym e) bad
+  module _ (h : least ≤ length d) where
+    pub kept : (n : ℕ) → n ≡ answer_of rows → (n ≡ 0 → ⊥) → (◌≡◌ {A = Written} (record { answer = n; count = 0 }) (answered (lent_answer least rows d) text)) × (d ≡ buffered (lent_answer least rows d) text d)
+    kept n e bad = refused _ text d n (there least rows d h ∙ sym e) bad
 
-    pub put : {d' : List ℕ} {count : ℕ} → n ≡ 0 → Wrote d 0 text d' count
-        → (◌≡◌ {A = Written} (record { answer = n; count = count }) (answered (lent_answer least rows d) text)) × (d' ≡ buffered (lent_answer least rows d) text d)
-    put {count = count} z w =
-        let p = done (lent_answer least rows d) text d (there least rows d h ∙ sym e ∙ z) w in
-        (ap (λ a. record { answer = a; count = count }) z ∙ p.0, p.1)
+    pub unfit : 1 ≡ answer_of rows → (◌≡◌ {A = Written} (record { answer = 1; count = 0 }) (answered (lent_answer least rows d) text)) × (d ≡ buffered (lent_answer least rows d) text d)
+    unfit e = kept 1 e (λ z. omega arith)
+
+    pub refused_by : (answer : Result ℕ Refusal) (refusal : Refusal) → IsErrAnd answer (λ e. e ≡ refusal) → refusal_number refusal ≡ answer_of rows
+        → (written answer ≡ answered (lent_answer least rows d) text) × (d ≡ buffered (lent_answer least rows d) text d)
+    refused_by answer refusal is e = let k = kept _ e (not-done refusal) in (ap written (handed-on answer is) ∙ k.0, k.1)
+
+    pub put : {d' : List ℕ} {count : ℕ} → 0 ≡ answer_of rows → Wrote d 0 text d' count
+        → (◌≡◌ {A = Written} (record { answer = 0; count = count }) (answered (lent_answer least rows d) text)) × (d' ≡ buffered (lent_answer least rows d) text d)
+    put e w = done (lent_answer least rows d) text d (there least rows d h ∙ sym e) w
 
 -- ---- a register with answer 0, and a slip that fits, have a text, and the buffer has room for it
 
-pub register-writable : (r : Register) (d : List ℕ) (a : ℕ) → register_room ≤ length d → a ≡ register_answer r → a ≡ 0 → (register_layout.legal r ≡ true) × Room d 0 (register_layout.text r)
+pub register-writable : (r : Register) (d : List ℕ) → register_room ≤ length d → 0 ≡ register_answer r → (register_layout.legal r ≡ true) × Room d 0 (register_layout.text r)
 unfolding register_answer
-register-writable r d a h e z =
-    let fits = not-false _ (first-zero form _ _ (omega arith) (sym e ∙ z)).0 in
+register-writable r d h e =
+    let fits = not-false _ (first-zero form _ _ (omega arith) (sym e)).0 in
     (fits, record { fits = omega (arith, register-most r fits) })
 
 pub slip-writable : (s : Slip) (d : List ℕ) (t : Bool) → slip_room ≤ length d → t ≡ slip_layout.legal s → t ≡ true → (slip_layout.legal s ≡ true) × Room d 0 (slip_layout.text s)

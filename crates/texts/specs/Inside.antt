@@ -1,35 +1,29 @@
 -- What private functions promise one another, here and in the desk (`Room`, `Wrote`). No public promise rests on a word of it.
-use Rattle.std.specs.Prelude.{◌≡◌, Bool, true, false, List, ◌++◌, ℕ, ◌+◌, ◌-◌, ◌≤◌, ◌<◌, length, take, drop, get_or, replicate}
+use Rattle.std.specs.Prelude.{Option, None, Some, ◌≡◌, List, ◌++◌, ℕ, ◌+◌, ◌-◌, ◌≤◌, length, take, drop, replicate}
 use Rattle.std.proofs.Math.Option.{none, some}
 use Rattle.texts.specs.Bounds.{code_places}
 use Rattle.texts.specs.Layout.{Layout}
-use Rattle.texts.specs.Leaf.{numeral, number, run}
+use Rattle.texts.specs.Leaf.{run}
 use Rattle.texts.specs.declared.code.Code.{Code}
 use Rattle.texts.specs.declared.cursor.Cursor.{Cursor}
+use Rattle.texts.specs.declared.pen.Pen.{Pen}
 
 -- ---- reading
 
--- Reading L in s went from the cursor c to the cursor e, with the value v. A cursor that has stopped stays where it stopped.
-pub record Reads {A : Type 0} (L : Layout A) (s : List ℕ) (c : Cursor) (v : A) (e : Cursor) : Type 0 where
-  pub stays : c.ok ≡ false → e ≡ c
-  pub within : c.at ≤ length s → e.at ≤ length s
-  pub got : c.at ≤ length s → e.ok ≡ true → L.read (drop c.at s) ≡ some (v, drop e.at s)
-  pub stuck : c.at ≤ length s → c.ok ≡ true → e.ok ≡ false → L.read (drop c.at s) ≡ none
+-- Reading L at the front of t answers r: the value that stands there, and t' is left; or nothing, where none stands there.
+abbrev pub Reads : {A : Type 0} → Layout A → List ℕ → Option A → List ℕ → Type 0
+Reads L t None t' = L.read t ≡ none
+Reads L t (Some v) t' = L.read t ≡ some (v, t')
 
--- t and w have their first n bytes in common, and no more.
-pub record Common (t w : List ℕ) (n : ℕ) : Type 0 where
-  pub in-t : n ≤ length t
-  pub in-w : n ≤ length w
-  pub same : take n t ≡ take n w
-  pub stop : n < length t → n < length w → get_or t n 0 ≡ get_or w n 0 → ⊥
+-- Reading L in s from the place c, if that is no place past the end, answers r: the value that stands there and the place after it, or nothing.
+abbrev pub ReadsAt : {A : Type 0} → Layout A → List ℕ → Cursor → Option (A × Cursor) → Type 0
+ReadsAt L s c None = c.at ≤ length s → L.read (drop c.at s) ≡ none
+ReadsAt L s c (Some p) = c.at ≤ length s → (p.1.at ≤ length s) × (L.read (drop c.at s) ≡ some (p.0, drop p.1.at s))
 
--- The first n bytes of t are digits that make v. Where they are fewer than the width no number of that width, up to `upper`, stands there.
-pub record Counted (t : List ℕ) (width upper n v : ℕ) : Type 0 where
-  pub in-t : n ≤ length t
-  pub in-width : n ≤ width
-  pub makes : numeral n t ≡ some (v, drop n t)
-  pub upto : v ≤ upper
-  pub stop : n < width → (least : ℕ) → (number width least upper).read t ≡ none
+-- What a step that has no value answered.
+abbrev pub passed : Option Cursor → Option (Unit {0} × Cursor)
+passed None = None
+passed (Some e) = Some (tt, e)
 
 -- c holds the digits at the front of t, as many as there are, up to eight.
 pub record Held (t : List ℕ) (c : Code) : Type 0 where
@@ -51,9 +45,11 @@ pub record Wrote (d : List ℕ) (at : ℕ) (t d' : List ℕ) (next : ℕ) : Type
   pub size : length d' ≡ length d
   pub holds : d' ≡ take at d ++ t ++ drop (at + length t) d
 
--- ---- values
+-- The page of a pen has room for t from the pen's place on.
+abbrev pub RoomFor : Pen → List ℕ → Type 0
+RoomFor p t = Room p.page.now p.at t
 
--- A place of an array passes: the one test where it is used, the other where it is not.
-abbrev pub passes : {A : Type 0} → (A → Bool) → (A → Bool) → Bool → A → Bool
-passes used unused true x = used x
-passes used unused false x = unused x
+-- The pen p wrote t on its page, which left it as q: past t, on the same page.
+pub record Writes (p q : Pen) (t : List ℕ) : Type 0 where
+  pub same_page : q.page.ghost_name ≡ p.page.ghost_name
+  pub wrote : Wrote p.page.now p.at t q.page.now q.at

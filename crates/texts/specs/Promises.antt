@@ -4,13 +4,14 @@ use Rattle.std.proofs.Math.Option.{some}
 use Rattle.texts.specs.Bounds.{register_room, slip_room}
 use Rattle.texts.specs.Bytes.{same_bytes}
 use Rattle.texts.specs.Layout.{Layout, whole}
-use Rattle.texts.specs.Answers.{why}
-use Rattle.texts.specs.Written.{over}
-use Rattle.texts.specs.Register.{register_layout, listed, register_rows, register_answer, register_read, register_write_rows, register_write_answer, register_written, register_buffer}
-use Rattle.texts.specs.Slip.{slip_layout, slip_in, read_rows, slip_read, slip_write_rows, slip_write_answer, slip_written, slip_buffer}
+use Rattle.texts.specs.Answers.{why, refusal_number, answer_number}
+use Rattle.texts.specs.Written.{written, over}
+use Rattle.texts.specs.Register.{register_layout, listed, register_rows, register_answer, register_said, register_read, register_write_rows, register_write_answer, register_written, register_buffer}
+use Rattle.texts.specs.Slip.{slip_layout, slip_in, read_rows, slip_said, slip_read, slip_write_rows, slip_write_answer, slip_written, slip_buffer}
 use Rattle.texts.specs.Answers.{numbers_of}
 use Rattle.texts.specs.Code.{is_code, same_code, spelled, code_of}
 use Rattle.texts.specs.Payee.{before_payee, start_in_register, payee_part, shown}
+use Rattle.texts.specs.declared.answers.Refusal.{Refusal}
 use Rattle.texts.specs.declared.code.Code.{Code}
 use Rattle.texts.specs.declared.register.Register.{Register}
 use Rattle.texts.specs.declared.slip.Slip.{Slip}
@@ -28,6 +29,27 @@ SlipWriteOrder = (s : Slip) (buffer : List ℕ) → numbers_of (slip_write_rows 
 
 abbrev pub SlipReadOrder : Type 0
 SlipReadOrder = (text : List ℕ) → numbers_of (read_rows text) ≡ 1 ∷ []
+
+-- ---- what is said of an answer determines it: no two refusals have one number, and no two answers are said alike
+
+abbrev pub NumbersOneToOne : Type 0
+NumbersOneToOne = (a b : Refusal) → refusal_number a ≡ refusal_number b → a ≡ b
+
+abbrev pub SaidOnce : {A S : Type 0} → (A → S) → Type 0
+SaidOnce {A} said = (a b : A) → said a ≡ said b → a ≡ b
+
+-- Of an answer that gives nothing but its number.
+abbrev pub AnswerSaidOnce : Type 0
+AnswerSaidOnce = SaidOnce (answer_number {A = Unit {0}})
+
+abbrev pub RegisterSaidOnce : Type 0
+RegisterSaidOnce = SaidOnce register_said
+
+abbrev pub SlipSaidOnce : Type 0
+SlipSaidOnce = SaidOnce slip_said
+
+abbrev pub WrittenSaidOnce : Type 0
+WrittenSaidOnce = SaidOnce written
 
 -- ---- codes: "compared byte by byte, length included"
 

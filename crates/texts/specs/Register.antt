@@ -1,5 +1,5 @@
 -- The register's text: "`shops=` two digits 01 to 16; that many `shop=CODE:OPENING` lines, opening six digits; `own=CODE`."
-use Rattle.std.specs.Prelude.{Bool, true, false, not, ◌||◌, List, [], ◌∷◌, ℕ, zero, suc, length, take, replicate, ltb}
+use Rattle.std.specs.Prelude.{Bool, true, false, not, ◌||◌, List, [], ◌∷◌, ℕ, zero, suc, length, take, replicate, ltb, Result, Ok, Err}
 use Rattle.std.proofs.Math.Option.{Option}
 use Rattle.texts.specs.Bounds.{most_shops, count_width, register_room}
 use Rattle.texts.specs.Bytes.{bytes, found, or_zeros}
@@ -7,13 +7,12 @@ use Rattle.texts.specs.Layout.{Layout, ◌⟫◌, ◌then◌, of, whole}
 use Rattle.texts.specs.Code.{no_code, same_code}
 use Rattle.texts.specs.Lines.{code_line, number_line}
 use Rattle.texts.specs.Entries.{no_entry, entry_line, entry_lines}
-use Rattle.texts.specs.Answers.{Row, form, shop, room, twin, answer_of}
-use Rattle.texts.specs.Written.{answered, buffered}
+use Rattle.texts.specs.Answers.{Row, ok, form, shop, room, twin, answer_of, number_of, refusal_number}
+use Rattle.texts.specs.Written.{Written, answered, buffered}
 use Rattle.texts.specs.declared.code.Code.{Code}
 use Rattle.texts.specs.declared.entry.Entry.{Entry}
 use Rattle.texts.specs.declared.register.Register.{Register}
-use Rattle.texts.specs.declared.register.RegisterRead.{RegisterRead}
-use Rattle.texts.specs.declared.pen.Written.{Written}
+use Rattle.texts.specs.declared.answers.Refusal.{Refusal}
 
 -- ---- zeros
 
@@ -92,6 +91,16 @@ register_answer r = answer_of (register_rows (register_layout.legal r) r)
 
 unfoldable pub register_text_answer : List ℕ → ℕ
 register_text_answer text = answer_of (register_rows (found (register_in text)) (or_zeros no_register (register_in text)))
+
+-- The number of the answer to a text, and the register.
+pub record RegisterRead : Type 0 where
+  pub answer : ℕ
+  pub register : Register
+
+-- What reading said, as number and register.
+abbrev pub register_said : Result Register Refusal → RegisterRead
+register_said (Ok r) = record { answer = number_of ok; register = r }
+register_said (Err refusal) = record { answer = refusal_number refusal; register = no_register }
 
 -- "A refused register gives a record of zeros."
 unfoldable pub register_read : List ℕ → RegisterRead

@@ -1,6 +1,6 @@
 -- The slip's text: "`payer=CODE`, `number=` six digits, `payee=CODE`, `amount=` six digits, `deps=` two digits 00 to 15, then that many
 -- `dep=CODE:NUMBER` lines, number six digits." The order of dependencies is no matter of form: "a breach is answer 5, not 1".
-use Rattle.std.specs.Prelude.{not, List, [], ◌∷◌, ℕ, length, take, replicate, ltb}
+use Rattle.std.specs.Prelude.{not, List, [], ◌∷◌, ℕ, length, take, replicate, ltb, Result, Ok, Err}
 use Rattle.std.proofs.Math.Option.{Option}
 use Rattle.texts.specs.Bounds.{most_shops, most_deps, count_width, slip_room}
 use Rattle.texts.specs.Bytes.{bytes, found, or_zeros}
@@ -8,13 +8,12 @@ use Rattle.texts.specs.Layout.{Layout, ◌⟫◌, ◌then◌, of, key, whole}
 use Rattle.texts.specs.Code.{no_code}
 use Rattle.texts.specs.Lines.{six, code_line, number_line}
 use Rattle.texts.specs.Entries.{no_entry, entry_line, entry_lines}
-use Rattle.texts.specs.Answers.{Row, form, room, answer_of}
-use Rattle.texts.specs.Written.{answered, buffered}
+use Rattle.texts.specs.Answers.{Row, ok, form, room, answer_of, number_of, refusal_number}
+use Rattle.texts.specs.Written.{Written, answered, buffered}
 use Rattle.texts.specs.declared.code.Code.{Code}
 use Rattle.texts.specs.declared.entry.Entry.{Entry}
 use Rattle.texts.specs.declared.slip.Slip.{Slip}
-use Rattle.texts.specs.declared.slip.SlipRead.{SlipRead}
-use Rattle.texts.specs.declared.pen.Written.{Written}
+use Rattle.texts.specs.declared.answers.Refusal.{Refusal}
 
 -- ---- zeros
 
@@ -80,6 +79,16 @@ deps_of s = take s.count s.deps
 -- "Reading a slip: 1."
 abbrev pub read_rows : List ℕ → List Row
 read_rows text = (form, not (found (slip_in text))) ∷ []
+
+-- The number of the answer to a text, and the slip.
+pub record SlipRead : Type 0 where
+  pub answer : ℕ
+  pub slip : Slip
+
+-- What reading said, as number and slip.
+abbrev pub slip_said : Result Slip Refusal → SlipRead
+slip_said (Ok s) = record { answer = number_of ok; slip = s }
+slip_said (Err refusal) = record { answer = refusal_number refusal; slip = no_slip }
 
 -- "a slip text refused by the reader gives a slip of zeros"
 unfoldable pub slip_read : List ℕ → SlipRead

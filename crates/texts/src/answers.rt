@@ -1,41 +1,53 @@
 // The answers: their numbers, and the one table of their names.
 ghost use Rattle.std.specs.Prelude.{◌≡◌};
-ghost use Rattle.texts.specs.Answers.{name_of};
+ghost use Rattle.texts.specs.Answers.{refusal_number, answer_number, name_of};
 
+// The answer of a call that is done: a number, as `why` and what is printed speak of answers.
 pub const OK: u8 = 0;
 
-pub const FORM: u8 = 1;
+// Why a call is refused. Each refusal stands at its number.
+#[derive(Clone, Copy, Debug, PartialEq, Eq)]
+pub enum Refusal {
+    Form = 1,
+    Shop,
+    Oneself,
+    Range,
+    Deps,
+    Number,
+    Full,
+    Busy,
+    Short,
+    Usedup,
+    Room,
+    Twin,
+    State,
+}
 
-pub const SHOP: u8 = 2;
+impl From<Refusal> for u8 {
+    ghost from_gives = { λ refusal number. number ≡ refusal_number refusal };
 
-pub const SELF: u8 = 3;
+    fn from(refusal: Refusal) -> u8 {
+        refusal as u8
+    }
+}
 
-pub const RANGE: u8 = 4;
-
-pub const DEPS: u8 = 5;
-
-pub const NUMBER: u8 = 6;
-
-pub const FULL: u8 = 7;
-
-pub const BUSY: u8 = 8;
-
-pub const SHORT: u8 = 9;
-
-pub const USEDUP: u8 = 10;
-
-pub const ROOM: u8 = 11;
-
-pub const TWIN: u8 = 12;
-
-pub const STATE: u8 = 13;
+// The number of an answer.
+pub fn number_of<T: Copy>(answer: Result<T, Refusal>) -> u8
+    ensures { result ≡ answer_number answer }
+{
+    match answer {
+        Ok(_) => OK,
+        Err(refusal) => u8::from(refusal),
+    }
+}
 
 // How many answers there are, and the places that a name has.
 const ANSWERS: usize = 14;
 
 pub const NAME_PLACES: usize = 8;
 
-// The name of an answer: `len` bytes, zeros after them.
+// The name of an answer: `len` bytes, zeros after them. The rules name the form of this table: eight-byte names with lengths, indexed
+// by the answer's number, so `why` takes the number.
 #[derive(Clone, Copy)]
 pub struct Name {
     pub bytes: [u8; NAME_PLACES],

@@ -3,7 +3,7 @@
 // The shops that a register has room for.
 pub const SHOPS: usize = 16;
 // The dependencies that a slip has at most: every shop but the payer.
-pub const MOST_DEPS: usize = 15;
+pub const MOST_DEPS: usize = SHOPS - 1;
 // The digits that a code has room for.
 pub const CODE_DIGITS: usize = 8;
 // The digits of an opening, an amount and a slip number.

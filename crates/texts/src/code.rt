@@ -1,56 +1,38 @@
 // A shop's code: one to eight decimal digits. It is never a number.
-ghost use Rattle.std.specs.Prelude.{◌≡◌, eqb};
+ghost use Rattle.std.specs.Prelude.{◌≡◌};
 ghost use Rattle.texts.specs.Leaf.{digit};
 ghost use Rattle.texts.specs.Code.{no_code, is_code, same_code, code_of};
-ghost use Rattle.texts.specs.Inside.{Held, passes};
+ghost use Rattle.texts.specs.Inside.{Held};
 
 use crate::bounds::CODE_DIGITS;
 
 // `len` digits as they were written, zeros in the places that are not used.
-#[derive(Clone, Copy)]
+// A length beside the places, and no fact in the type: `is_code` and `same_code` speak of codes whatever stands in each place.
+#[derive(Clone, Copy, Debug, PartialEq, Eq)]
 pub struct Code {
     pub digits: [u8; CODE_DIGITS],
     pub len: usize,
 }
 
-// Is the byte one of the digits 0 to 9.
+// Is the byte one of the digits 0 to 9: told here for codes and numbers.
 pub(crate) fn is_digit(b: u8) -> bool
     ensures { result ≡ digit b }
 {
-    if b < 48 {
-        return false;
-    }
-    b <= 57
-}
-
-// May the byte stand in a code's place: a digit where the place is used, else zero.
-fn digit_passes(b: u8, used: bool) -> bool
-    ensures { result ≡ passes digit (eqb 0) used b }
-{
-    if used {
-        return is_digit(b);
-    }
-    b == 0
+    b.is_ascii_digit()
 }
 
 // The digits at the front of t, at most eight of them.
 pub(crate) fn hold(t: &[u8]) -> Code
     ensures { Held t.now result }
 {
+    let len = t
+        .iter()
+        .take(CODE_DIGITS)
+        .take_while(|b| is_digit(**b))
+        .count();
     let mut digits = [0u8; CODE_DIGITS];
-    let mut i = 0;
-    while i < CODE_DIGITS {
-        if t.len() <= i {
-            return Code { digits, len: i };
-        }
-        let b = t[i];
-        if !is_digit(b) {
-            return Code { digits, len: i };
-        }
-        digits[i] = b;
-        i += 1;
-    }
-    Code { digits, len: i }
+    digits[..len].copy_from_slice(&t[..len]);
+    Code { digits, len }
 }
 
 impl Code {
@@ -65,6 +47,7 @@ impl Code {
     }
 
     // The code that the bytes spell, or the code of zeros where they spell none.
+    // No `Option` and no `TryFrom`: it could not fail before, and `asked` and `issued` take the code of zeros as a shop that is not listed.
     pub fn from_bytes(s: &[u8]) -> Self
         ensures { result ≡ code_of s.now }
     {
@@ -75,42 +58,21 @@ impl Code {
         Code::none()
     }
 
-    // Are the two the same, byte by byte and in length.
+    // Are the two the same, byte by byte and in length: what `==` says, as a promise.
     pub fn same(self, other: Code) -> bool
         ensures { result ≡ same_code self other }
     {
-        if self.len != other.len {
-            return false;
-        }
-        let mut i = 0;
-        while i < CODE_DIGITS {
-            if self.digits[i] != other.digits[i] {
-                return false;
-            }
-            i += 1;
-        }
-        true
+        self == other
     }
 
     // Could a text carry it.
     pub fn fits(self) -> bool
         ensures { result ≡ is_code self }
     {
-        let n = self.len;
-        if n < 1 {
+        if !(1..=CODE_DIGITS).contains(&self.len) {
             return false;
         }
-        if CODE_DIGITS < n {
-            return false;
-        }
-        let mut i = 0;
-        while i < CODE_DIGITS {
-            let b = self.digits[i];
-            if !digit_passes(b, i < n) {
-                return false;
-            }
-            i += 1;
-        }
-        true
+        let (used, unused) = self.digits.split_at(self.len);
+        used.iter().all(|&b| is_digit(b)) && unused.iter().all(|&b| b == 0)
     }
 }

@@ -1,19 +1,20 @@
 // The register: the shops in their order with their opening credit, and which of them is the own shop.
-ghost use Rattle.std.specs.Prelude.{◌≡◌, true, ◌+◌, ◌≤◌, length, take, drop};
-ghost use Rattle.texts.specs.Bounds.{most_shops};
-ghost use Rattle.texts.specs.Register.{no_register, register_layout, place, twins, shops_of, position, listed, shops_rows, register_answer, register_read, register_written, register_buffer};
-ghost use Rattle.texts.specs.Answers.{answer_of};
-ghost use Rattle.texts.specs.Inside.{Reads, Room, Wrote};
+ghost use Rattle.std.specs.Prelude.{◌≡◌, true, MatchOption};
+ghost use Rattle.std.proofs.Math.Option.{none, some};
+ghost use Rattle.texts.specs.Register.{no_register, register_layout, register_in, twins, shops_of, position, listed, shops_rows, register_answer, register_read, register_written, register_buffer, among, register_said};
+ghost use Rattle.texts.specs.Answers.{answer_of, answer_number};
+ghost use Rattle.texts.specs.Inside.{Room, Wrote};
+ghost use Rattle.texts.specs.Written.{written};
 
-use crate::answers::{FORM, OK, ROOM, SHOP, TWIN};
+use crate::answers::Refusal;
 use crate::bounds::{COUNT_WIDTH, REGISTER_ROOM, SHOPS};
 use crate::code::Code;
-use crate::cursor::Cursor;
 use crate::entry::{Entry, entries_fit, put_entries};
-use crate::pen::{Written, put_code_line, put_number_line};
+use crate::pen::Pen;
 use crate::reader::Reader;
 
 // `count` shops; the number of each is its opening credit; zeros in the places that are not used.
+// A count beside the places, and no fact in the type: `register_layout` and `register_answer` speak of registers whatever stands in each place.
 #[derive(Clone, Copy)]
 pub struct Register {
     pub count: usize,
@@ -21,49 +22,21 @@ pub struct Register {
     pub own: Code,
 }
 
-// What reading a register's text answers; refused: a register of zeros.
-#[derive(Clone, Copy)]
-pub struct RegisterRead {
-    pub answer: u8,
-    pub register: Register,
-}
-
-// A register that was read, and the place after it.
-#[derive(Clone, Copy)]
-struct RegisterAt {
-    register: Register,
-    next: Cursor,
-}
-
 // ---- the shops
 
-// The position of a code among the first n shops, looked for from a position on; past the last where it is not there.
-fn place_from(shops: [Entry; SHOPS], n: usize, from: usize, code: Code) -> usize
-    requires { (n ≤ most_shops) × (from ≤ n) }
-    ensures { result ≡ from + place (drop from (take n shops)) code }
+// Is the code one of these shops'.
+fn among(shops: &[Entry], code: Code) -> bool
+    ensures { result ≡ among shops.now code }
 {
-    let mut i = from;
-    while i < n {
-        let shop = shops[i];
-        let here = shop.code;
-        if here.same(code) {
-            return i;
-        }
-        i += 1;
-    }
-    i
+    shops.iter().any(|shop| shop.code == code)
 }
 
-// Are there two equal codes among the first n shops.
-fn has_twins(shops: [Entry; SHOPS], n: usize) -> bool
-    requires { n ≤ most_shops }
-    ensures { result ≡ twins (take n shops) }
+// Are there two equal codes among these shops.
+fn has_twins(shops: &[Entry]) -> bool
+    ensures { result ≡ twins shops.now }
 {
-    let mut i = 0;
-    while i < n {
-        let shop = shops[i];
-        i += 1;
-        if place_from(shops, n, i, shop.code) < n {
+    for (i, shop) in shops.iter().enumerate() {
+        if among(&shops[i + 1..], shop.code) {
             return true;
         }
     }
@@ -75,135 +48,93 @@ impl Register {
     pub fn none() -> Self
         ensures { result ≡ no_register }
     {
-        let own = Code::none();
-        let none = Entry::none();
         Register {
             count: 0,
-            shops: [none; SHOPS],
-            own,
+            shops: [Entry::none(); SHOPS],
+            own: Code::none(),
         }
     }
 
-    // How many shops are in use.
-    fn size(self) -> usize
-        ensures { (result ≤ most_shops) × (result ≡ length (shops_of self)) }
+    // The shops in use.
+    fn in_use(&self) -> &[Entry]
+        ensures { result.now ≡ shops_of self.now }
     {
-        let n = self.count;
-        if SHOPS < n {
-            return SHOPS;
-        }
-        n
+        &self.shops[..self.count.min(SHOPS)]
     }
 
     // The position of a code; the number of shops where it is not listed.
+    // No `Option`: it could not fail before, and `own` and `payer_of` of the replica's specs take the number of shops as not listed.
     pub fn position(self, code: Code) -> usize
         ensures { result ≡ position self code }
     {
-        let shops = self.shops;
-        let n = self.size();
-        place_from(shops, n, 0, code)
+        let shops = self.in_use();
+        shops
+            .iter()
+            .position(|shop| shop.code == code)
+            .unwrap_or(shops.len())
     }
 
     // Is the code listed.
     pub fn lists(self, code: Code) -> bool
         ensures { result ≡ listed self code }
     {
-        self.position(code) < self.size()
+        among(self.in_use(), code)
     }
 
     // Could a text carry it.
     pub fn fits(self) -> bool
         ensures { result ≡ register_layout.legal self }
     {
-        let n = self.count;
-        let shops = self.shops;
-        let own = self.own;
-        if n < 1 {
-            return false;
-        }
-        if SHOPS < n {
-            return false;
-        }
-        if own.fits() {
-            return entries_fit(shops, n);
-        }
-        false
+        (1..=SHOPS).contains(&self.count) && self.own.fits() && entries_fit(&self.shops, self.count)
     }
 
-    // Two equal codes, or an own code that is not listed: 12, 2 or 0.
-    fn shops_answer(self) -> u8
-        ensures { result ≡ answer_of (shops_rows self) }
+    // Refused for two equal codes, or for an own code that is not listed.
+    fn shops_answer(self) -> Result<(), Refusal>
+        ensures { answer_number result ≡ answer_of (shops_rows self) }
     {
-        let shops = self.shops;
-        let own = self.own;
-        let n = self.size();
-        if has_twins(shops, n) {
-            return TWIN;
+        if has_twins(self.in_use()) {
+            return Err(Refusal::Twin);
         }
-        if self.lists(own) {
-            return OK;
+        if !self.lists(self.own) {
+            return Err(Refusal::Shop);
         }
-        SHOP
+        Ok(())
     }
 
-    // Is it a legal register: 1, 12, 2 or 0.
-    pub fn answer(self) -> u8
-        ensures { result ≡ register_answer self }
+    // Is it a legal register: refused with 1, 12 or 2, else done.
+    pub fn answer(self) -> Result<(), Refusal>
+        ensures { answer_number result ≡ register_answer self }
     {
-        if self.fits() {
-            return self.shops_answer();
+        if !self.fits() {
+            return Err(Refusal::Form);
         }
-        FORM
+        self.shops_answer()
     }
 }
 
 // ---- reading
 
-// A register, line by line.
-fn register_at(s: &[u8], c: Cursor) -> RegisterAt
-    ensures { Reads register_layout s.now c result.register result.next }
+// A register, line by line, and nothing after it.
+#[tactic(auto, unfolding(crate::specs::Layout::whole, crate::specs::Register::register_layout, crate::specs::Register::register_in))]
+fn parse_register(text: &[u8]) -> Option<Register>
+    ensures { MatchOption result (register_in text.now ≡ none) (λ v. register_in text.now ≡ some v) }
 {
-    let mut reader = Reader { text: s, at: c };
-    let head = reader.number(b"shops=", COUNT_WIDTH, 1, SHOPS as u32);
-    reader.at = head.next;
-    let count = head.value as usize;
-    let list = reader.entries(b"shop=", count);
-    let shops = list.entries;
-    reader.at = list.next;
-    let tail = reader.code(b"own=", b'\n');
-    let register = Register {
-        count,
-        shops,
-        own: tail.code,
-    };
-    RegisterAt {
-        register,
-        next: tail.next,
-    }
+    let mut reader = Reader::new(text);
+    let count = reader.number(b"shops=", COUNT_WIDTH, 1, SHOPS as u32)? as usize;
+    let shops = reader.entries(b"shop=", count)?;
+    let own = reader.code(b"own=", b'\n')?;
+    reader.ends().then_some(Register { count, shops, own })
 }
 
 // The register that a text carries.
-pub fn read_register(text: &[u8]) -> RegisterRead
-    ensures { result ≡ register_read text.now }
+pub fn read_register(text: &[u8]) -> Result<Register, Refusal>
+    ensures { register_said result ≡ register_read text.now }
 {
-    let none = Register::none();
-    let found = register_at(text, Cursor::start());
-    let register = found.register;
-    let next = found.next;
-    if next.ends(text) {
-        let answer = register.shops_answer();
-        if answer == OK {
-            return RegisterRead { answer, register };
-        }
-        return RegisterRead {
-            answer,
-            register: none,
-        };
-    }
-    RegisterRead {
-        answer: FORM,
-        register: none,
-    }
+    let Some(register) = parse_register(text) else {
+        return Err(Refusal::Form);
+    };
+    register.shops_answer()?;
+    Ok(register)
 }
 
 // ---- writing
@@ -213,29 +144,21 @@ fn put_register(buf: &mut [u8], r: Register) -> usize
     requires { (register_layout.legal r ≡ true) × Room buf.old 0 (register_layout.text r) }
     ensures { Wrote buf.old 0 (register_layout.text r) buf.new result }
 {
-    let count = r.count;
-    let shops = r.shops;
-    let own = r.own;
-    let head = put_number_line(buf, 0, b"shops=", count as u32, COUNT_WIDTH);
-    let list = put_entries(buf, head, b"shop=", shops, count);
-    put_code_line(buf, list, b"own=", own, b'\n')
+    let mut pen = Pen { page: buf, at: 0 };
+    pen.put_number_line(b"shops=", r.count as u32, COUNT_WIDTH);
+    put_entries(&mut pen, b"shop=", &r.shops[..r.count]);
+    pen.put_code_line(b"own=", r.own, b'\n');
+    pen.at
 }
 
-// Writes a register's text at the front of a lent buffer.
-pub fn write_register(register: Register, buffer: &mut [u8]) -> Written
-    ensures answer { result ≡ register_written register buffer.old }
+// Writes a register's text at the front of a lent buffer; answers its length. Why it stands beside `write_slip` is said there.
+pub fn write_register(register: Register, buffer: &mut [u8]) -> Result<usize, Refusal>
+    ensures answer { written result ≡ register_written register buffer.old }
     ensures bytes { buffer.new ≡ register_buffer register buffer.old }
 {
     if buffer.len() < REGISTER_ROOM {
-        return Written {
-            answer: ROOM,
-            count: 0,
-        };
+        return Err(Refusal::Room);
     }
-    let answer = register.answer();
-    if answer == OK {
-        let count = put_register(buffer, register);
-        return Written { answer, count };
-    }
-    Written { answer, count: 0 }
+    register.answer()?;
+    Ok(put_register(buffer, register))
 }

@@ -1,18 +1,20 @@
 // The slip: who pays whom how much, and which slips of other shops it depends on.
-ghost use Rattle.std.specs.Prelude.{◌≡◌, true};
-ghost use Rattle.texts.specs.Slip.{no_slip, slip_layout, slip_read, slip_written, slip_buffer};
-ghost use Rattle.texts.specs.Inside.{Reads, Room, Wrote};
+ghost use Rattle.std.specs.Prelude.{◌≡◌, true, MatchOption};
+ghost use Rattle.std.proofs.Math.Option.{none, some};
+ghost use Rattle.texts.specs.Slip.{no_slip, slip_layout, slip_in, slip_read, slip_written, slip_buffer, slip_said};
+ghost use Rattle.texts.specs.Inside.{Room, Wrote};
+ghost use Rattle.texts.specs.Written.{written};
 
-use crate::answers::{FORM, OK, ROOM};
+use crate::answers::Refusal;
 use crate::bounds::{COUNT_WIDTH, MOST, MOST_DEPS, NUMBER_WIDTH, SHOPS, SLIP_ROOM};
 use crate::code::Code;
-use crate::cursor::Cursor;
 use crate::entry::{Entry, entries_fit, put_entries};
-use crate::pen::{Written, put_code_line, put_number_line};
+use crate::pen::Pen;
 use crate::reader::Reader;
 
 // `count` dependencies, each the first `number` slips of a shop, zeros in the places that are not used.
 // The last place is never used: shops and dependencies have one type of list.
+// A count beside the places, and no fact in the type: `slip_layout` speaks of slips whatever stands in each place.
 #[derive(Clone, Copy)]
 pub struct Slip {
     pub payer: Code,
@@ -23,34 +25,18 @@ pub struct Slip {
     pub deps: [Entry; SHOPS],
 }
 
-// What reading a slip's text answers; refused: a slip of zeros.
-#[derive(Clone, Copy)]
-pub struct SlipRead {
-    pub answer: u8,
-    pub slip: Slip,
-}
-
-// A slip that was read, and the place after it.
-#[derive(Clone, Copy)]
-struct SlipAt {
-    slip: Slip,
-    next: Cursor,
-}
-
 impl Slip {
     // The slip of zeros.
     pub fn none() -> Self
         ensures { result ≡ no_slip }
     {
-        let code = Code::none();
-        let none = Entry::none();
         Slip {
-            payer: code,
+            payer: Code::none(),
             number: 0,
-            payee: code,
+            payee: Code::none(),
             amount: 0,
             count: 0,
-            deps: [none; SHOPS],
+            deps: [Entry::none(); SHOPS],
         }
     }
 
@@ -58,77 +44,44 @@ impl Slip {
     pub fn fits(self) -> bool
         ensures { result ≡ slip_layout.legal self }
     {
-        let payer = self.payer;
-        let payee = self.payee;
-        let deps = self.deps;
-        let n = self.count;
-        if MOST < self.number {
-            return false;
-        }
-        if MOST < self.amount {
-            return false;
-        }
-        if MOST_DEPS < n {
-            return false;
-        }
-        if payer.fits() {
-            if payee.fits() {
-                return entries_fit(deps, n);
-            }
-        }
-        false
+        self.number <= MOST
+            && self.amount <= MOST
+            && self.count <= MOST_DEPS
+            && self.payer.fits()
+            && self.payee.fits()
+            && entries_fit(&self.deps, self.count)
     }
 }
 
 // ---- reading
 
-// A slip, line by line.
-fn slip_at(s: &[u8], c: Cursor) -> SlipAt
-    ensures { Reads slip_layout s.now c result.slip result.next }
+// A slip, line by line, and nothing after it.
+#[tactic(auto, unfolding(crate::specs::Layout::whole, crate::specs::Slip::slip_layout, crate::specs::Slip::slip_in))]
+fn parse_slip(text: &[u8]) -> Option<Slip>
+    ensures { MatchOption result (slip_in text.now ≡ none) (λ v. slip_in text.now ≡ some v) }
 {
-    let mut reader = Reader { text: s, at: c };
-    let paying = reader.code(b"payer=", b'\n');
-    reader.at = paying.next;
-    let numbered = reader.number(b"number=", NUMBER_WIDTH, 0, MOST);
-    reader.at = numbered.next;
-    let paid = reader.code(b"payee=", b'\n');
-    reader.at = paid.next;
-    let moved = reader.number(b"amount=", NUMBER_WIDTH, 0, MOST);
-    reader.at = moved.next;
-    let head = reader.number(b"deps=", COUNT_WIDTH, 0, MOST_DEPS as u32);
-    reader.at = head.next;
-    let count = head.value as usize;
-    let list = reader.entries(b"dep=", count);
-    let deps = list.entries;
-    let slip = Slip {
-        payer: paying.code,
-        number: numbered.value,
-        payee: paid.code,
-        amount: moved.value,
+    let mut reader = Reader::new(text);
+    let payer = reader.code(b"payer=", b'\n')?;
+    let number = reader.number(b"number=", NUMBER_WIDTH, 0, MOST)?;
+    let payee = reader.code(b"payee=", b'\n')?;
+    let amount = reader.number(b"amount=", NUMBER_WIDTH, 0, MOST)?;
+    let count = reader.number(b"deps=", COUNT_WIDTH, 0, MOST_DEPS as u32)? as usize;
+    let deps = reader.entries(b"dep=", count)?;
+    reader.ends().then_some(Slip {
+        payer,
+        number,
+        payee,
+        amount,
         count,
         deps,
-    };
-    SlipAt {
-        slip,
-        next: list.next,
-    }
+    })
 }
 
 // The slip that a text carries.
-pub fn read_slip(text: &[u8]) -> SlipRead
-    ensures { result ≡ slip_read text.now }
+pub fn read_slip(text: &[u8]) -> Result<Slip, Refusal>
+    ensures { slip_said result ≡ slip_read text.now }
 {
-    let none = Slip::none();
-    let found = slip_at(text, Cursor::start());
-    let slip = found.slip;
-    let next = found.next;
-    if next.ends(text) {
-        return SlipRead { answer: OK, slip };
-    }
-    SlipRead {
-        answer: FORM,
-        slip: none,
-    }
+    parse_slip(text).ok_or(Refusal::Form)
 }
 
 // ---- writing
@@ -138,35 +91,27 @@ fn put_slip(buf: &mut [u8], s: Slip) -> usize
     requires { (slip_layout.legal s ≡ true) × Room buf.old 0 (slip_layout.text s) }
     ensures { Wrote buf.old 0 (slip_layout.text s) buf.new result }
 {
-    let payer = s.payer;
-    let payee = s.payee;
-    let count = s.count;
-    let deps = s.deps;
-    let paying = put_code_line(buf, 0, b"payer=", payer, b'\n');
-    let numbered = put_number_line(buf, paying, b"number=", s.number, NUMBER_WIDTH);
-    let paid = put_code_line(buf, numbered, b"payee=", payee, b'\n');
-    let moved = put_number_line(buf, paid, b"amount=", s.amount, NUMBER_WIDTH);
-    let head = put_number_line(buf, moved, b"deps=", count as u32, COUNT_WIDTH);
-    put_entries(buf, head, b"dep=", deps, count)
+    let mut pen = Pen { page: buf, at: 0 };
+    pen.put_code_line(b"payer=", s.payer, b'\n');
+    pen.put_number_line(b"number=", s.number, NUMBER_WIDTH);
+    pen.put_code_line(b"payee=", s.payee, b'\n');
+    pen.put_number_line(b"amount=", s.amount, NUMBER_WIDTH);
+    pen.put_number_line(b"deps=", s.count as u32, COUNT_WIDTH);
+    put_entries(&mut pen, b"dep=", &s.deps[..s.count]);
+    pen.at
 }
 
-// Writes a slip's text at the front of a lent buffer.
-pub fn write_slip(slip: Slip, buffer: &mut [u8]) -> Written
-    ensures answer { result ≡ slip_written slip buffer.old }
+// Writes a slip's text at the front of a lent buffer; answers its length.
+// Not one generic function with `write_register`: a trait that says what refuses and how much room is needed is longer than the two.
+pub fn write_slip(slip: Slip, buffer: &mut [u8]) -> Result<usize, Refusal>
+    ensures answer { written result ≡ slip_written slip buffer.old }
     ensures bytes { buffer.new ≡ slip_buffer slip buffer.old }
 {
     if buffer.len() < SLIP_ROOM {
-        return Written {
-            answer: ROOM,
-            count: 0,
-        };
+        return Err(Refusal::Room);
     }
-    if slip.fits() {
-        let count = put_slip(buffer, slip);
-        return Written { answer: OK, count };
+    if !slip.fits() {
+        return Err(Refusal::Form);
     }
-    Written {
-        answer: FORM,
-        count: 0,
-    }
+    Ok(put_slip(buffer, slip))
 }

@@ -1,56 +1,60 @@
-// The page: bytes that wait to be printed. Each `put` writes from a place on, and answers the place after what it wrote.
+// The page: bytes that wait to be printed, in a room of a fixed size. What has no room is cut off at its end.
 ghost use Rattle.std.specs.Prelude.{◌≤◌};
+ghost use Rattle.trials.specs.declared.page.TheConstants.{PAGE_ROOM};
 
-use crate::parts::part;
+use std::io::Write;
+use std::{fmt, io};
 
 // The bytes that a page has room for.
-pub(crate) const PAGE_ROOM: usize = 49152;
+const PAGE_ROOM: usize = 49152;
 // With so many bytes a page is printed: what a single call prints still has room after them. The longest is a record with a slip
 // in each of its places, some 35000 bytes.
-pub(crate) const PAGE_FULL: usize = 8192;
-// The most digits that a number is put with.
-const DIGITS: usize = 10;
+const PAGE_FULL: usize = 8192;
 
-// The bytes w, as far as the page has room for them.
-pub(crate) fn put(page: &mut [u8], at: usize, w: &[u8]) -> usize {
-    let mut next = at;
-    let mut i = 0;
-    while i < w.len() {
-        if page.len() <= next {
-            return next;
+// Its first `at` bytes wait to be printed; an array, as there is no heap.
+#[derive(Drop)]
+pub(crate) struct Page {
+    bytes: [u8; PAGE_ROOM],
+    at: usize,
+    ghost within: { at ≤ PAGE_ROOM },
+}
+
+impl Page {
+    // A page with nothing on it.
+    pub(crate) fn new() -> Self {
+        Page {
+            bytes: [0; PAGE_ROOM],
+            at: 0,
         }
-        page[next] = w[i];
-        next += 1;
-        i += 1;
     }
-    next
-}
 
-// The last ten digits of a number.
-fn digits_of(value: usize) -> [u8; DIGITS] {
-    let mut digits = [b'0'; DIGITS];
-    let mut left = value;
-    let mut i = DIGITS;
-    while 0 < i {
-        i -= 1;
-        digits[i] = b'0' + (left % 10) as u8;
-        left /= 10;
+    // Puts the bytes after those that wait; an error where they do not all have room.
+    pub(crate) fn put(&mut self, bytes: &[u8]) -> fmt::Result {
+        let at = self.at;
+        let count = bytes.len().min(PAGE_ROOM - at);
+        self.bytes[at..at + count].copy_from_slice(&bytes[..count]);
+        self.at = at + count;
+        if count < bytes.len() {
+            return Err(fmt::Error);
+        }
+        Ok(())
     }
-    digits
+
+    // Is it time to print it.
+    pub(crate) fn is_full(&self) -> bool {
+        PAGE_FULL < self.at
+    }
+
+    // Prints what waits; then nothing does.
+    pub(crate) fn print(&mut self, rt: &impl Print) -> io::Result<()> {
+        io::writer(rt).write_all(&self.bytes[..self.at])?;
+        self.at = 0;
+        Ok(())
+    }
 }
 
-// The last `width` digits of a number.
-pub(crate) fn put_number(page: &mut [u8], at: usize, value: usize, width: usize) -> usize
-    requires { width ≤ 10 }
-{
-    let digits = digits_of(value);
-    put(page, at, part(&digits, DIGITS - width, width))
-}
-
-// A key, and the last `width` digits of a number.
-pub(crate) fn put_field(page: &mut [u8], at: usize, key: &[u8], value: usize, width: usize) -> usize
-    requires { width ≤ 10 }
-{
-    let keyed = put(page, at, key);
-    put_number(page, keyed, value, width)
+impl fmt::Write for Page {
+    fn write_str(&mut self, text: &str) -> fmt::Result {
+        self.put(text.as_bytes())
+    }
 }

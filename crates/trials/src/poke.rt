@@ -1,25 +1,12 @@
 // Poking: one field of the current record is changed, so that any record can be handed in. Nothing is printed.
-ghost use Rattle.std.specs.Prelude.{◌≤◌, ◌<◌};
+ghost use Rattle.std.specs.Prelude.{◌<◌};
+ghost use Rattle.texts.specs.declared.bounds.TheConstants.{SHOPS};
+ghost use Rattle.replica.specs.declared.bounds.TheConstants.{WAITING};
 
-use crate::called::Called;
-use crate::parts::{part, same};
-use crate::script::{MOST_NUMBER, NO_NUMBER, number};
-use crate::words::{WORD, Word, word_of};
+use crate::script::{WORD, number_after};
 use replica::Replica;
 use replica::bounds::WAITING;
 use texts::bounds::SHOPS;
-
-// The bytes of a poke: the field's name, then a position i, a place k in a line, a second position j and the value, each after a
-// blank.
-const POKE: usize = 28;
-// Where the four blanks stand.
-const POSITION: usize = 8;
-
-const PLACE: usize = 11;
-
-const SECOND: usize = 14;
-
-const VALUE: usize = 17;
 
 // The digits of a position or place, and of the value.
 const SHORT: usize = 2;
@@ -30,140 +17,118 @@ const BYTES: usize = 256;
 
 const NUMBERS: usize = 4294967296;
 
-// The field to change, where it stands, and what it becomes.
+// The fields of a record, by the words that name them.
 #[derive(Clone, Copy)]
-struct Poke {
-    field: Word,
-    i: usize,
-    k: usize,
-    j: usize,
+enum Field {
+    Count,
+    Listed,
+    Digit,
+    Opening,
+    OwnLen,
+    OwnDigit,
+    Issued,
+    Balance,
+    Taken,
+    Applied,
+    Mark,
+    Waits,
+    Payer,
+    Number,
+    Payee,
+    Amount,
+    Need,
+}
+
+impl Field {
+    // The field that a word names.
+    fn read(word: &[u8]) -> Option<Self> {
+        match word {
+            b"count   " => Some(Field::Count),
+            b"listed  " => Some(Field::Listed),
+            b"digit   " => Some(Field::Digit),
+            b"opening " => Some(Field::Opening),
+            b"ownlen  " => Some(Field::OwnLen),
+            b"owndigit" => Some(Field::OwnDigit),
+            b"issued  " => Some(Field::Issued),
+            b"balance " => Some(Field::Balance),
+            b"taken   " => Some(Field::Taken),
+            b"applied " => Some(Field::Applied),
+            b"mark    " => Some(Field::Mark),
+            b"waits   " => Some(Field::Waits),
+            b"payer   " => Some(Field::Payer),
+            b"number  " => Some(Field::Number),
+            b"payee   " => Some(Field::Payee),
+            b"amount  " => Some(Field::Amount),
+            b"need    " => Some(Field::Need),
+            _ => None,
+        }
+    }
+}
+
+// The field to change, where it stands (the position of a shop, a place in its code or in its line, and the position of a shop
+// that a slip names), and what it becomes.
+#[derive(Clone, Copy)]
+pub(crate) struct Poke {
+    field: Field,
+    shop: usize,
+    place: usize,
+    needed: usize,
     value: usize,
+    ghost shop_listed: { shop < SHOPS },
+    ghost place_used: { place < WAITING },
+    ghost needed_listed: { needed < SHOPS },
 }
 
-// The number after the blank at a place.
-fn number_after(raw: &[u8], blank: usize, digits: usize) -> usize
-    requires { blank ≤ 28 }
-{
-    if same(part(raw, blank, 1), b" ") {
-        return number(part(raw, blank + 1, digits));
+impl Poke {
+    // The poke that the bytes say: the field's name, then the two positions with the place between them and the value, each after a
+    // blank.
+    pub(crate) fn read(raw: &[u8]) -> Option<Self> {
+        let (word, rest) = raw.split_at_checked(WORD)?;
+        let (shop, rest) = number_after(rest, b" ", SHORT)?;
+        let (place, rest) = number_after(rest, b" ", SHORT)?;
+        let (needed, rest) = number_after(rest, b" ", SHORT)?;
+        let (value, rest) = number_after(rest, b" ", LONG)?;
+        if SHOPS <= shop || WAITING <= place || SHOPS <= needed || !rest.is_empty() {
+            return None;
+        }
+        Some(Poke {
+            field: Field::read(word)?,
+            shop,
+            place,
+            needed,
+            value,
+        })
     }
-    NO_NUMBER
-}
 
-// The poke that the bytes say; of no field where they are none.
-fn read_poke(raw: &[u8]) -> Poke
-    ensures { (result.i < 16) × (result.k < 8) × (result.j < 16) }
-{
-    let none = Poke {
-        field: Word::Unknown,
-        i: 0,
-        k: 0,
-        j: 0,
-        value: 0,
-    };
-    let i = number_after(raw, POSITION, SHORT);
-    let k = number_after(raw, PLACE, SHORT);
-    let j = number_after(raw, SECOND, SHORT);
-    let value = number_after(raw, VALUE, LONG);
-    let field = word_of(part(raw, 0, WORD));
-    if raw.len() != POKE {
-        return none;
+    // Changes the field of the record.
+    pub(crate) fn change(self, record: &mut Replica) {
+        let Poke {
+            field,
+            shop,
+            place,
+            needed,
+            value,
+        } = self;
+        let byte = (value % BYTES) as u8;
+        let number = (value % NUMBERS) as u32;
+        match field {
+            Field::Count => record.register.count = value,
+            Field::Listed => record.register.shops[shop].code.len = value,
+            Field::Digit => record.register.shops[shop].code.digits[place] = byte,
+            Field::Opening => record.register.shops[shop].number = number,
+            Field::OwnLen => record.register.own.len = value,
+            Field::OwnDigit => record.register.own.digits[place] = byte,
+            Field::Issued => record.issued = number,
+            Field::Balance => record.shops[shop].balance = number,
+            Field::Taken => record.shops[shop].taken = number,
+            Field::Applied => record.shops[shop].applied = number,
+            Field::Mark => record.shops[shop].mark = number,
+            Field::Waits => record.lines[shop].count = value,
+            Field::Payer => record.lines[shop].slips[place].payer = value,
+            Field::Number => record.lines[shop].slips[place].number = number,
+            Field::Payee => record.lines[shop].slips[place].payee = value,
+            Field::Amount => record.lines[shop].slips[place].amount = number,
+            Field::Need => record.lines[shop].slips[place].needs[needed] = number,
+        }
     }
-    if SHOPS <= i {
-        return none;
-    }
-    if WAITING <= k {
-        return none;
-    }
-    if SHOPS <= j {
-        return none;
-    }
-    if MOST_NUMBER < value {
-        return none;
-    }
-    Poke {
-        field,
-        i,
-        k,
-        j,
-        value,
-    }
-}
-
-// Changes a field of a line or of a slip in it.
-fn poke_line(at: usize, mut record: Replica, poke: Poke) -> Called
-    requires { (poke.i < 16) × (poke.k < 8) × (poke.j < 16) }
-{
-    let field = poke.field;
-    let i = poke.i;
-    let k = poke.k;
-    let j = poke.j;
-    let number = (poke.value % NUMBERS) as u32;
-    let mut line = record.lines[i];
-    let mut slip = line.slips[k];
-    match field {
-        Word::Waits => line.count = poke.value,
-        Word::Payer => slip.payer = poke.value,
-        Word::Number => slip.number = number,
-        Word::Payee => slip.payee = poke.value,
-        Word::Amount => slip.amount = number,
-        Word::Need => slip.needs[j] = number,
-        _ => return Called::bad(at, record),
-    }
-    line.slips[k] = slip;
-    record.lines[i] = line;
-    Called::done(at, record)
-}
-
-// Changes a number of a shop, or else a line.
-fn poke_shop(at: usize, mut record: Replica, poke: Poke) -> Called
-    requires { (poke.i < 16) × (poke.k < 8) × (poke.j < 16) }
-{
-    let field = poke.field;
-    let i = poke.i;
-    let number = (poke.value % NUMBERS) as u32;
-    let mut shop = record.shops[i];
-    match field {
-        Word::Issued => record.issued = number,
-        Word::Balance => shop.balance = number,
-        Word::Taken => shop.taken = number,
-        Word::Applied => shop.applied = number,
-        Word::Mark => shop.mark = number,
-        _ => return poke_line(at, record, poke),
-    }
-    record.shops[i] = shop;
-    Called::done(at, record)
-}
-
-// Changes a field of the register, or else a shop or a line.
-fn poke_register(at: usize, mut record: Replica, poke: Poke) -> Called
-    requires { (poke.i < 16) × (poke.k < 8) × (poke.j < 16) }
-{
-    let field = poke.field;
-    let i = poke.i;
-    let k = poke.k;
-    let byte = (poke.value % BYTES) as u8;
-    let mut register = record.register;
-    let mut own = register.own;
-    let mut listed = register.shops[i];
-    let mut code = listed.code;
-    match field {
-        Word::Count => register.count = poke.value,
-        Word::Listed => code.len = poke.value,
-        Word::Digit => code.digits[k] = byte,
-        Word::Opening => listed.number = (poke.value % NUMBERS) as u32,
-        Word::OwnLen => own.len = poke.value,
-        Word::OwnDigit => own.digits[k] = byte,
-        _ => return poke_shop(at, record, poke),
-    }
-    listed.code = code;
-    register.shops[i] = listed;
-    register.own = own;
-    record.register = register;
-    Called::done(at, record)
-}
-
-// Changes the field of the current record that the bytes say.
-pub(crate) fn call_poke(at: usize, raw: &[u8], record: Replica) -> Called {
-    poke_register(at, record, read_poke(raw))
 }

@@ -1,111 +1,68 @@
 // The calls on the current record. Each prints its lines on the page; the record that it answers is the next current one.
-ghost use Rattle.std.specs.Prelude.{◌≤◌, length};
+use crate::lent::Lent;
+use crate::page::Page;
+use crate::report::put_outcome;
+use replica::{Replica, Reply};
+use std::fmt;
 
-use crate::called::Called;
-use crate::page::put;
-use crate::parts::part;
-use crate::report::{BUFFER, FILL, put_list, put_outcome, put_text};
-use crate::script::number;
-use crate::state::put_record;
-use replica::{Outcome, Replica};
-
-// The digits of an amount, before the payee's code, and the largest that there is.
-const AMOUNT_DIGITS: usize = 10;
-
-const MOST_AMOUNT: usize = 4294967295;
-
-// A call that prints its answer alone.
-fn answered(page: &mut [u8], at: usize, outcome: Outcome) -> Called {
-    let after = outcome.replica;
-    Called::done(put_outcome(page, at, outcome), after)
+// Opens a replica; where the register is refused the record is that of zeros.
+pub(crate) fn put_opened(page: &mut Page, text: &[u8], record: &mut Replica) -> fmt::Result {
+    let answer = Replica::open(text);
+    *record = answer.unwrap_or(Replica::none());
+    put_outcome(page, answer, 0, 0)
 }
 
-// Opens a replica.
-pub(crate) fn call_open(page: &mut [u8], at: usize, text: &[u8]) -> Called {
-    answered(page, at, Replica::open(text))
+// Asks a balance.
+pub(crate) fn put_balance(page: &mut Page, code: &[u8], record: &mut Replica) -> fmt::Result {
+    let reply = record.balance(code);
+    *record = reply.replica;
+    put_outcome(page, reply.answer, 0, reply.answer.unwrap_or(0))
 }
 
-// Takes in a slip, with the first `room` bytes of a list lent.
-fn take_with(list: &mut [u8], room: usize, record: Replica, text: &[u8]) -> Outcome
-    requires { room ≤ length list.old }
-{
-    record.take(text, &mut list[..room])
+// What a call that gives a count answered; hands on the count.
+fn put_counted(
+    page: &mut Page,
+    reply: Reply<usize>,
+    record: &mut Replica,
+) -> Result<usize, fmt::Error> {
+    *record = reply.replica;
+    let count = reply.answer.unwrap_or(0);
+    put_outcome(page, reply.answer, count, 0)?;
+    Ok(count)
 }
 
 // Takes in a slip, and prints whose slips were applied.
-pub(crate) fn call_take(
-    page: &mut [u8],
-    at: usize,
-    room: usize,
+pub(crate) fn put_taken(
+    page: &mut Page,
+    mut lent: Lent,
     text: &[u8],
-    record: Replica,
-) -> Called
-    requires { room ≤ 512 }
-{
-    let mut list = [FILL; BUFFER];
-    let outcome = take_with(&mut list, room, record, text);
-    let after = outcome.replica;
-    let told = put_outcome(page, at, outcome);
-    let next = put_list(page, told, &list, outcome.count);
-    Called::done(next, after)
+    record: &mut Replica,
+) -> fmt::Result {
+    let room = lent.room;
+    let reply = record.take(text, &mut lent.bytes[..room]);
+    let count = put_counted(page, reply, record)?;
+    lent.put_list(page, count)
 }
 
-// Issues a slip, with the first `room` bytes of a buffer lent.
-fn issue_with(buffer: &mut [u8], room: usize, record: Replica, payee: &[u8], amount: u32) -> Outcome
-    requires { room ≤ length buffer.old }
-{
-    record.issue(payee, amount, &mut buffer[..room])
+// Issues a slip, and prints its text.
+pub(crate) fn put_issued(
+    page: &mut Page,
+    mut lent: Lent,
+    payee: &[u8],
+    amount: u32,
+    record: &mut Replica,
+) -> fmt::Result {
+    let room = lent.room;
+    let reply = record.issue(payee, amount, &mut lent.bytes[..room]);
+    let count = put_counted(page, reply, record)?;
+    lent.put_text(page, count)
 }
 
-// Issues a slip, and prints its text: the raw bytes are the amount's digits and then the payee's code.
-pub(crate) fn call_issue(
-    page: &mut [u8],
-    at: usize,
-    room: usize,
-    raw: &[u8],
-    record: Replica,
-) -> Called
-    requires { room ≤ 512 }
-{
-    let bad = Called::bad(at, record);
-    if raw.len() < AMOUNT_DIGITS {
-        return bad;
-    }
-    let amount = number(part(raw, 0, AMOUNT_DIGITS));
-    if MOST_AMOUNT < amount {
-        return bad;
-    }
-    let payee = &raw[AMOUNT_DIGITS..];
-    let mut buffer = [FILL; BUFFER];
-    let outcome = issue_with(&mut buffer, room, record, payee, amount as u32);
-    let after = outcome.replica;
-    let told = put_outcome(page, at, outcome);
-    let next = put_text(page, told, &buffer, outcome.count);
-    Called::done(next, after)
-}
-
-// Asks the balance of a shop.
-pub(crate) fn call_balance(page: &mut [u8], at: usize, code: &[u8], record: Replica) -> Called {
-    answered(page, at, record.balance(code))
-}
-
-// Says whether the record keeps the state rule; a call with no raw bytes.
-pub(crate) fn call_lawful(page: &mut [u8], at: usize, raw: &[u8], record: Replica) -> Called {
-    if raw.len() != 0 {
-        return Called::bad(at, record);
-    }
+// Says whether the record keeps the state rule.
+pub(crate) fn put_lawful(page: &mut Page, record: &Replica) -> fmt::Result {
     if record.lawful() {
-        let yes = put(page, at, b"lawful=yes\n");
-        return Called::done(yes, record);
+        page.put(b"lawful=yes\n")
+    } else {
+        page.put(b"lawful=no\n")
     }
-    let no = put(page, at, b"lawful=no\n");
-    Called::done(no, record)
-}
-
-// Prints the record; a call with no raw bytes.
-pub(crate) fn call_state(page: &mut [u8], at: usize, raw: &[u8], record: Replica) -> Called {
-    if raw.len() != 0 {
-        return Called::bad(at, record);
-    }
-    Called::done(put_record(page, at, record), record)
 }

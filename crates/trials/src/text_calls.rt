@@ -1,123 +1,88 @@
-// The calls on texts alone: reading, writing, and showing a payee. Each prints its lines on the page and answers the place after
-// them.
-ghost use Rattle.std.specs.Prelude.{◌≤◌, length};
-
-use crate::page::{put, put_field};
-use crate::parts::part;
-use crate::report::{BUFFER, FILL, put_answer, put_text};
-use texts::answers::OK;
+// The calls on texts alone: reading, writing, and showing a payee. Each prints its lines on the page.
+use crate::lent::Lent;
+use crate::page::Page;
+use crate::report::put_answer;
+use std::fmt;
+use std::fmt::Write;
 use texts::bounds::CODE_DIGITS;
 use texts::{
-    Code, Register, Slip, Written, payee_part, read_register, read_slip, write_register, write_slip,
+    Code, Refusal, Register, Slip, payee_part, read_register, read_slip, write_register, write_slip,
 };
 
+// What a text says: a register or a slip.
+pub(crate) trait Text: Copy {
+    fn read(text: &[u8]) -> Result<Self, Refusal>;
+
+    fn write(self, buffer: &mut [u8]) -> Result<usize, Refusal>;
+
+    // The value with a byte in a place of a code that is not used.
+    fn spoiled(self) -> Self;
+}
+
 // A byte in the first place that the code does not use; a code of eight digits stays as it is.
-fn spoiled(code: Code) -> Code {
-    let mut digits = code.digits;
-    let len = code.len;
-    if len < CODE_DIGITS {
-        digits[len] = b'0';
+fn spoiled(mut code: Code) -> Code {
+    if code.len < CODE_DIGITS {
+        code.digits[code.len] = b'0';
     }
-    Code { digits, len }
+    code
 }
 
-// Writes a register into the first `room` bytes of a buffer.
-fn write_register_to(buffer: &mut [u8], room: usize, register: Register) -> Written
-    requires { room ≤ length buffer.old }
-{
-    write_register(register, &mut buffer[..room])
-}
-
-// Writes a slip into the first `room` bytes of a buffer.
-fn write_slip_to(buffer: &mut [u8], room: usize, slip: Slip) -> Written
-    requires { room ≤ length buffer.old }
-{
-    write_slip(slip, &mut buffer[..room])
-}
-
-// What reading answered, and, where that is 0, what writing the value that was read answered.
-fn put_round(
-    page: &mut [u8],
-    at: usize,
-    answer: u8,
-    written: Written,
-    buffer: &[u8; BUFFER],
-) -> usize {
-    let answered = put_answer(page, at, b"read=", answer);
-    let closed = put(page, answered, b"\n");
-    if answer != OK {
-        return closed;
+impl Text for Register {
+    fn read(text: &[u8]) -> Result<Self, Refusal> {
+        read_register(text)
     }
-    let wrote = put_answer(page, closed, b"write=", written.answer);
-    let counted = put_field(page, wrote, b" count=", written.count, 3);
-    let ended = put(page, counted, b"\n");
-    put_text(page, ended, buffer, written.count)
-}
 
-// Writes a register that was read into `room` bytes.
-fn put_register(page: &mut [u8], at: usize, room: usize, answer: u8, register: Register) -> usize
-    requires { room ≤ 512 }
-{
-    let mut buffer = [FILL; BUFFER];
-    let written = write_register_to(&mut buffer, room, register);
-    put_round(page, at, answer, written, &buffer)
-}
-
-// Writes a slip that was read into `room` bytes.
-fn put_slip(page: &mut [u8], at: usize, room: usize, answer: u8, slip: Slip) -> usize
-    requires { room ≤ 512 }
-{
-    let mut buffer = [FILL; BUFFER];
-    let written = write_slip_to(&mut buffer, room, slip);
-    put_round(page, at, answer, written, &buffer)
-}
-
-// Reads a register and writes it.
-pub(crate) fn call_register(page: &mut [u8], at: usize, room: usize, text: &[u8]) -> usize
-    requires { room ≤ 512 }
-{
-    let found = read_register(text);
-    let register = found.register;
-    put_register(page, at, room, found.answer, register)
-}
-
-// Reads a slip and writes it.
-pub(crate) fn call_slip(page: &mut [u8], at: usize, room: usize, text: &[u8]) -> usize
-    requires { room ≤ 512 }
-{
-    let found = read_slip(text);
-    let slip = found.slip;
-    put_slip(page, at, room, found.answer, slip)
-}
-
-// Reads a register, spoils its own code, and writes it.
-pub(crate) fn call_bad_register(page: &mut [u8], at: usize, room: usize, text: &[u8]) -> usize
-    requires { room ≤ 512 }
-{
-    let found = read_register(text);
-    let mut register = found.register;
-    let own = spoiled(register.own);
-    register.own = own;
-    put_register(page, at, room, found.answer, register)
-}
-
-// Reads a slip, spoils its payer's code, and writes it.
-pub(crate) fn call_bad_slip(page: &mut [u8], at: usize, room: usize, text: &[u8]) -> usize
-    requires { room ≤ 512 }
-{
-    let found = read_slip(text);
-    let mut slip = found.slip;
-    let payer = spoiled(slip.payer);
-    slip.payer = payer;
-    put_slip(page, at, room, found.answer, slip)
-}
-
-// Shows the payee of a slip: the raw bytes are a register of `room` bytes and then the slip.
-pub(crate) fn call_payee(page: &mut [u8], at: usize, room: usize, raw: &[u8]) -> usize {
-    if raw.len() < room {
-        return at;
+    fn write(self, buffer: &mut [u8]) -> Result<usize, Refusal> {
+        write_register(self, buffer)
     }
-    let keyed = put(page, at, b"payee=");
-    let shown = put(page, keyed, payee_part(part(raw, 0, room), &raw[room..]));
-    put(page, shown, b"\n")
+
+    fn spoiled(self) -> Self {
+        Register {
+            own: spoiled(self.own),
+            ..self
+        }
+    }
+}
+
+impl Text for Slip {
+    fn read(text: &[u8]) -> Result<Self, Refusal> {
+        read_slip(text)
+    }
+
+    fn write(self, buffer: &mut [u8]) -> Result<usize, Refusal> {
+        write_slip(self, buffer)
+    }
+
+    fn spoiled(self) -> Self {
+        Slip {
+            payer: spoiled(self.payer),
+            ..self
+        }
+    }
+}
+
+// What reading answered, and, where it gave a value, what writing that answers.
+pub(crate) fn put_round<T: Text>(
+    page: &mut Page,
+    mut lent: Lent,
+    read: Result<T, Refusal>,
+) -> fmt::Result {
+    put_answer(page, "read", read)?;
+    page.put(b"\n")?;
+    let Ok(value) = read else {
+        return Ok(());
+    };
+    let room = lent.room;
+    let written = value.write(&mut lent.bytes[..room]);
+    put_answer(page, "write", written)?;
+    let count = written.unwrap_or(0);
+    writeln!(page, " count={count:03}")?;
+    lent.put_text(page, count)
+}
+
+// Shows the payee of a slip.
+pub(crate) fn put_payee(page: &mut Page, register: &[u8], slip: &[u8]) -> fmt::Result {
+    page.put(b"payee=")?;
+    page.put(payee_part(register, slip))?;
+    page.put(b"\n")
 }

@@ -1,6 +1,5 @@
 -- What has been read lies within the bytes, which keep their length; the measure is what is left of them.
-use Prim.Native.Nat.{◌≤◌, ◌-◌}
-use lib.ListN.{length}
+use Rattle.std.proofs.Common.{◌≤◌, ◌-◌, length}
 use Rattle.trials.proofs.read_full.Given as goal
 
 abbrev pub invariant-loop-done : goal.invariant-loop-done

@@ -1,17 +1,10 @@
--- The shops before i are unmarked, the others are as they were.
-use native.Mathlib.Omega.{arith}
+-- Each shop loses its mark.
 use borrow.Author.Rules.{rules}
 use Rattle.texts.proofs.Values.{length-mapped}
 use Rattle.replica.specs.Record.{no_shop}
 use Rattle.replica.specs.Issue.{unmarked}
-use Rattle.replica.proofs.Issuing.{changed-none, changed-more, changed-done}
+use Rattle.replica.proofs.Mapped.{map-is}
 use Rattle.replica.proofs.issue.unmark.Goals as goal
 
-pub loop-i-init : goal.loop-i-init
-loop-i-init c = (search (length-mapped, rules), changed-none unmarked _)
-
-pub loop-i-preserved : goal.loop-i-preserved
-loop-i-preserved c = (c.loop-i.invariant.0, changed-more c.loop-i.invariant.1 no_shop (omega arith))
-
 pub returns : goal.returns
-returns c = changed-done c.loop-i.invariant.1 (omega arith)
+returns c = map-is c.map.ensures.items unmarked no_shop no_shop (search (length-mapped, rules)) (λ p q x y k. search rules)

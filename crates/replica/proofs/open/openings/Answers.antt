@@ -1,13 +1,11 @@
--- After i turns the first i shops have their openings and the others are zeros.
+-- Each entry becomes a shop on its first day.
 use borrow.Author.Rules.{rules}
-use Rattle.replica.proofs.Checked.{filled-all, openings-none, openings-more}
+use Rattle.texts.specs.Entries.{no_entry}
+use Rattle.texts.proofs.Values.{length-mapped}
+use Rattle.replica.specs.Record.{no_shop}
+use Rattle.replica.specs.Open.{first_day}
+use Rattle.replica.proofs.Mapped.{map-is}
 use Rattle.replica.proofs.open.openings.Goals as goal
 
-pub loop-i-init : goal.loop-i-init
-loop-i-init c = search (openings-none, rules)
-
-pub loop-i-preserved : goal.loop-i-preserved
-loop-i-preserved c = openings-more c.loop-i.invariant c.loop-i-test.true _
-
 pub returns : goal.returns
-returns c = filled-all c.loop-i.invariant c.loop-i-test.false
+returns c = map-is c.map.ensures.items first_day no_entry no_shop (search (length-mapped, rules)) (λ p q x y k. search rules)

@@ -1,20 +1,9 @@
--- The loop adds the openings and the balances of the shops one after the other; the sums of at most 16 fit.
-use native.Mathlib.Omega.{arith}
-use borrow.Author.Rules.{rules}
-use Rattle.replica.proofs.Kept.{summed-none, summed-more, summed-done}
+-- Sums of at most 16 numbers of 32 bits fit.
+use Rattle.std.proofs.Common.{rules, arith, ◌^◌}
+use Rattle.std.proofs.lemmas.Iterator.{YieldsList-from_slice}
+use Rattle.std.proofs.lemmas.Iterator.Adapters.{at_most_from_yields_List, fits_from_length}
 use Rattle.replica.proofs.state.is_balanced.Goals as goal
 
-pub loop-i-init : goal.loop-i-init
-loop-i-init c = summed-none _ _
-
-pub overflow_add-openings : goal.overflow_add-openings
-overflow_add-openings c = omega (arith, c.loop-i.invariant.few-opened)
-
-pub overflow_add-balances : goal.overflow_add-balances
-overflow_add-balances c = omega (arith, c.loop-i.invariant.few-held)
-
-pub loop-i-preserved : goal.loop-i-preserved
-loop-i-preserved c = summed-more c.loop-i.invariant (search rules) (omega arith) (omega arith)
-
-pub returns : goal.returns
-returns c = summed-done c.loop-i.invariant (search rules)
+pub sum-openings-requires-clause-fits : goal.sum-openings-requires-clause-fits
+sum-openings-requires-clause-fits c =
+    fits_from_length _ _ 16 (2 ^ 64) (at_most_from_yields_List (YieldsList-from_slice c.args.listed.now cc) c.requires.listed) (cc) (omega arith) (λ x r q k. search rules)

@@ -1,24 +1,17 @@
--- The digits passed are in their places, and the loop stops where the run of digits does.
-use mathlib.Core.Logic.{inl, inr}
-use mathlib.Core.Path.{sym, ◌∙◌}
-use borrow.Author.Rules.{rules}
-use borrow.Author.Tests.{not-true, not-false}
-use Rattle.texts.proofs.Spelling.{holding-none, holding-more, holding-stops}
+-- The digits counted are the first of t that `take_while` lets through, and they are copied over so many zeros.
+use Rattle.std.proofs.Common.{rules, ◌≡◌, length, take, refl}
+use Rattle.std.specs.List.{take_while}
+use Rattle.std.proofs.lemmas.Iterator.{YieldsList-from_slice, YieldsList-from_take}
+use Rattle.std.proofs.lemmas.Iterator.Search.{YieldsList-from_take_while}
+use Rattle.std.proofs.lemmas.Iterator.Consumers.{count_from_yields_List}
+use Rattle.texts.specs.Leaf.{digit}
+use Rattle.texts.proofs.Spelling.{held_front}
 use Rattle.texts.proofs.code.hold.Goals as goal
 
-pub loop-i-init : goal.loop-i-init
-loop-i-init c = holding-none _
-
-pub returns-then-t-i : goal.returns-then-t-i
-returns-then-t-i c = search (holding-stops, inl, inr, rules)
-
-pub returns-then-not-is_digit : goal.returns-then-not-is_digit
-returns-then-not-is_digit c = holding-stops c.loop-i.invariant (inr (inr (sym c.is_digit.ensures ∙ not-true _ c.if-not-is_digit.true-raw)))
-
-pub loop-i-preserved : goal.loop-i-preserved
-loop-i-preserved c =
-    let digit-there = sym c.is_digit.ensures ∙ not-false _ c.if-not-is_digit.false-raw in
-    search (holding-more, rules)
-
 pub returns : goal.returns
-returns c = search (holding-stops, inl, inr, rules)
+returns c =
+    let t = c.args.t.now in
+    let n : c.count-len.result ≡ length (take_while digit (take 8 t)) =
+    count_from_yields_List c.take_while.result _ c.count-len.ensures.ran
+    (YieldsList-from_take_while _ digit (YieldsList-from_take 8 (YieldsList-from_slice t (search rules)) (search rules)) refl (search rules) (λ x b q k. search rules)) in
+    held_front t _ _ n c.copy_from_slice.ensures.after

@@ -1,10 +1,10 @@
--- The digits passed make the value, and the loop stops where no number of the width, up to the bound, can go on.
-use Prim.Native.Nat.{◌-◌}
-use Rattle.texts.proofs.Spelling.{Spelling}
+-- The digits passed make the value.
+use Prim.Native.Nat.{◌<◌, ◌^◌}
+use mathlib.Core.Path.{◌≡◌}
+use mathlib.Core.Option.{some}
+use lib.ListN.{drop}
+use Rattle.texts.specs.Leaf.{numeral}
 use Rattle.texts.proofs.cursor.spell.Given as goal
 
-abbrev pub invariant-loop-i : goal.invariant-loop-i
-invariant-loop-i l = Spelling l.t l.width l.upper l.value l.unit l.i
-
-abbrev pub decreases-loop-i : goal.decreases-loop-i
-decreases-loop-i l = l.width - l.i
+abbrev pub invariant-loop-b : goal.invariant-loop-b
+invariant-loop-b l = (l.value < 10 ^ l.b-index) × (numeral l.b-index l.t ≡ some (l.value, drop l.b-index l.t))

@@ -1,20 +1,17 @@
 -- A line stands on the page where there is room, and where there is none nothing has changed.
-use native.Mathlib.Omega.{arith}
+use Rattle.std.proofs.Common.{arith, rules, ◌+◌, ◌<◌, length}
 use Rattle.texts.proofs.Paging.{wrote-put, no-room-line, room-line}
 use Rattle.texts.proofs.page.put_number_line.Goals as goal
+use Rattle.texts.proofs.page.put_number_line.Goals.{then-size-at-via-then-size-at, then-size-at-via-else-size-at+then-size-at-2, then-size-at-via-else-size-at+else-size-at-2+then-size-at-3}
 
 pub returns-then-size-at : goal.returns-then-size-at
 returns-then-size-at c =
-    let kept = no-room-line c.args.page.now c.args.at c.args.key.now c.args.width c.args.value (omega arith) in
-    record { place = kept.0; bytes = kept.1 }
-
-pub returns-then-room-key : goal.returns-then-room-key
-returns-then-room-key c =
-    let kept = no-room-line c.args.page.now c.args.at c.args.key.now c.args.width c.args.value (omega arith) in
-    record { place = kept.0; bytes = kept.1 }
-
-pub returns-then-room-key-2 : goal.returns-then-room-key-2
-returns-then-room-key-2 c =
+    let none : length c.args.page.now < c.args.at + (length c.args.key.now + (c.args.width + 1)) =
+    elim c.then-size-at.branch [
+      | then-size-at-via-then-size-at w ↦ omega arith
+      | then-size-at-via-else-size-at+then-size-at-2 w ↦ omega arith
+      | then-size-at-via-else-size-at+else-size-at-2+then-size-at-3 w ↦ omega arith
+    ] in
     let kept = no-room-line c.args.page.now c.args.at c.args.key.now c.args.width c.args.value (omega arith) in
     record { place = kept.0; bytes = kept.1 }
 
@@ -23,4 +20,7 @@ put_number_line-requires c =
     room-line c.args.page.now c.args.at c.args.key.now c.args.width c.args.value (omega arith)
 
 pub returns : goal.returns
-returns c = let put = wrote-put c.put_number_line.ensures in record { place = put.0; bytes = put.1 }
+returns c =
+    let put = wrote-put c.put_number_line.ensures.wrote in
+    let there = put.1 in
+    record { place = put.0; bytes = search rules }

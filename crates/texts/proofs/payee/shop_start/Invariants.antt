@@ -1,10 +1,6 @@
--- The lines of the shops passed are counted, and the key of the line that is wanted.
-use Prim.Native.Nat.{◌-◌, ◌≤◌}
+-- The lines of the shops passed are counted.
 use Rattle.texts.proofs.Payees.{Started}
 use Rattle.texts.proofs.payee.shop_start.Given as goal
 
-abbrev pub invariant-loop-i : goal.invariant-loop-i
-invariant-loop-i l = (l.i ≤ l.position) × (l.position ≤ 16) × Started l.shops l.at l.i
-
-abbrev pub decreases-loop-i : goal.decreases-loop-i
-decreases-loop-i l = l.position - l.i
+abbrev pub invariant-loop-shop : goal.invariant-loop-shop
+invariant-loop-shop l = Started l.fn.register.shops l.at l.shop-index

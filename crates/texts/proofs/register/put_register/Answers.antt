@@ -1,32 +1,32 @@
 -- The number of shops, their lines and the own code are written one after the other: the three writes are the register's text.
-use native.Mathlib.Omega.{arith}
+use Rattle.std.proofs.Common.{arith, rules}
 use Rattle.texts.specs.Register.{register_layout}
 use Rattle.texts.proofs.Legal.{register-fits}
-use Rattle.texts.proofs.Writing.{room-front, room_back, wrote_then}
+use Rattle.texts.proofs.Writing.{room-front, room_back, writes_then}
 use Rattle.texts.proofs.register.put_register.Goals as goal
 
-pub overflow_cast-count : goal.overflow_cast-count
-overflow_cast-count c =
-    omega (arith, (register-fits c.args.r c.requires.0).most)
+pub overflow_cast-r : goal.overflow_cast-r
+overflow_cast-r c = omega (arith, (register-fits c.args.r c.requires.0).most)
 
-pub put_number_line-head-requires : goal.put_number_line-head-requires
+pub put_number_line-requires : goal.put_number_line-requires
 unfolding register_layout
-put_number_line-head-requires c = room-front _ (room-front _ c.requires.1)
+put_number_line-requires c = room-front _ (room-front _ c.requires.1)
 
-pub put_entries-list-requires : goal.put_entries-list-requires
+pub shared_ref_as_front-put_entries : goal.shared_ref_as_front-put_entries
+shared_ref_as_front-put_entries c = omega (arith, (register-fits c.args.r c.requires.0).most)
+
+pub put_entries-requires : goal.put_entries-requires
 unfolding register_layout
-put_entries-list-requires c =
-    let fits = register-fits c.args.r c.requires.0 in
-    (fits.most, fits.used, room_back (room-front _ c.requires.1) c.put_number_line-head.ensures)
+put_entries-requires c = ((register-fits c.args.r c.requires.0).used, room_back (room-front _ c.requires.1) c.put_number_line.ensures.wrote)
 
 pub put_code_line-requires : goal.put_code_line-requires
 unfolding register_layout
-put_code_line-requires c = (
-  (register-fits c.args.r c.requires.0).own_code,
-  room_back c.requires.1 (wrote_then c.put_number_line-head.ensures c.put_entries-list.ensures),
-)
+put_code_line-requires c =
+    ((register-fits c.args.r c.requires.0).own_code, room_back c.requires.1 (writes_then c.put_number_line.ensures c.put_entries.ensures).wrote)
 
 pub returns : goal.returns
 unfolding register_layout
 returns c =
-    wrote_then (wrote_then c.put_number_line-head.ensures c.put_entries-list.ensures) c.put_code_line.ensures
+    let written = writes_then (writes_then c.put_number_line.ensures c.put_entries.ensures) c.put_code_line.ensures in
+    let there = written.wrote in
+    search rules

@@ -1,13 +1,12 @@
--- A register was read to the very end of the text, and is legal or not; or the text carries none.
-use borrow.Author.Rules.{rules}
+-- The text carries a register, which is legal or not, or none.
 use Rattle.texts.proofs.ReadingTexts.{register-there, register-refused, register-not-there}
 use Rattle.texts.proofs.register.read_register.Goals as goal
 
-pub returns-then-answer-eq-OK : goal.returns-then-answer-eq-OK
-returns-then-answer-eq-OK c = search (register-there, rules)
+pub returns-in_default : goal.returns-in_default
+returns-in_default c = register-not-there _ c.in_default.ensures
 
-pub returns-then-ends : goal.returns-then-ends
-returns-then-ends c = search (register-refused, rules)
+pub returns-in_err-shops_answer : goal.returns-in_err-shops_answer
+returns-in_err-shops_answer c = register-refused _ c.in-Some.ensures _ _ c.from_residual.ensures.1 c.in_err-shops_answer.ensures
 
 pub returns : goal.returns
-returns c = search (register-not-there, rules)
+returns c = register-there _ c.in-Some.ensures c.in_ok-shops_answer.ensures

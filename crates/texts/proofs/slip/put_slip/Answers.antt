@@ -1,56 +1,59 @@
 -- The six parts of a slip are written one after the other: the six writes are the slip's text.
-use native.Mathlib.Omega.{arith}
+use Rattle.std.proofs.Common.{arith, rules}
 use Rattle.texts.specs.Slip.{slip_layout}
 use Rattle.texts.proofs.Legal.{slip-legal}
-use Rattle.texts.proofs.Writing.{room-front, room_back, wrote_then}
+use Rattle.texts.proofs.Writing.{room-front, room_back, writes_then}
 use Rattle.texts.proofs.slip.put_slip.Goals as goal
 
 -- what is left to be written has room after each part that was
-pub put_code_line-paying-requires : goal.put_code_line-paying-requires
+pub put_code_line-requires : goal.put_code_line-requires
 unfolding slip_layout
-put_code_line-paying-requires c = ((slip-legal c.args.s c.requires.0).payer, room-front _ c.requires.1)
+put_code_line-requires c = ((slip-legal c.args.s c.requires.0).payer, room-front _ c.requires.1)
 
-pub put_number_line-numbered-requires : goal.put_number_line-numbered-requires
+pub put_number_line-requires : goal.put_number_line-requires
 unfolding slip_layout
-put_number_line-numbered-requires c = room-front _ (room_back c.requires.1 c.put_code_line-paying.ensures)
+put_number_line-requires c = room-front _ (room_back c.requires.1 c.put_code_line.ensures.wrote)
 
-pub put_code_line-paid-requires : goal.put_code_line-paid-requires
+pub put_code_line-requires-2 : goal.put_code_line-requires-2
 unfolding slip_layout
-put_code_line-paid-requires c =
-    ((slip-legal c.args.s c.requires.0).payee, room-front _ (room_back (room_back c.requires.1 c.put_code_line-paying.ensures) c.put_number_line-numbered.ensures))
+put_code_line-requires-2 c =
+    ((slip-legal c.args.s c.requires.0).payee, room-front _ (room_back (room_back c.requires.1 c.put_code_line.ensures.wrote) c.put_number_line.ensures.wrote))
 
-pub put_number_line-moved-requires : goal.put_number_line-moved-requires
+pub put_number_line-requires-2 : goal.put_number_line-requires-2
 unfolding slip_layout
-put_number_line-moved-requires c =
-    room-front _ (room_back (room_back (room_back c.requires.1 c.put_code_line-paying.ensures) c.put_number_line-numbered.ensures) c.put_code_line-paid.ensures)
+put_number_line-requires-2 c =
+    room-front _ (room_back (room_back (room_back c.requires.1 c.put_code_line.ensures.wrote) c.put_number_line.ensures.wrote) c.put_code_line-2.ensures.wrote)
 
-pub overflow_cast-count : goal.overflow_cast-count
-overflow_cast-count c = omega (arith, (slip-legal c.args.s c.requires.0).count)
+pub overflow_cast-s : goal.overflow_cast-s
+overflow_cast-s c = omega (arith, (slip-legal c.args.s c.requires.0).count)
 
-pub put_number_line-head-requires : goal.put_number_line-head-requires
+pub put_number_line-requires-3 : goal.put_number_line-requires-3
 unfolding slip_layout
-put_number_line-head-requires c =
+put_number_line-requires-3 c =
     room-front _
-    (room_back (room_back (room_back (room_back c.requires.1 c.put_code_line-paying.ensures) c.put_number_line-numbered.ensures) c.put_code_line-paid.ensures)
-    c.put_number_line-moved.ensures)
+    (room_back (room_back (room_back (room_back c.requires.1 c.put_code_line.ensures.wrote) c.put_number_line.ensures.wrote) c.put_code_line-2.ensures.wrote)
+    c.put_number_line-2.ensures.wrote)
+
+pub shared_ref_as_front-put_entries : goal.shared_ref_as_front-put_entries
+shared_ref_as_front-put_entries c = omega (arith, (slip-legal c.args.s c.requires.0).count)
 
 pub put_entries-requires : goal.put_entries-requires
 unfolding slip_layout
-put_entries-requires c =
-    let legal = slip-legal c.args.s c.requires.0 in (
-      omega (arith, legal.count),
-      legal.used,
-      room_back
-          (room_back (room_back (room_back (room_back c.requires.1 c.put_code_line-paying.ensures) c.put_number_line-numbered.ensures) c.put_code_line-paid.ensures)
-          c.put_number_line-moved.ensures)
-          c.put_number_line-head.ensures,
-    )
+put_entries-requires c = (
+  (slip-legal c.args.s c.requires.0).used,
+  room_back
+      (room_back (room_back (room_back (room_back c.requires.1 c.put_code_line.ensures.wrote) c.put_number_line.ensures.wrote) c.put_code_line-2.ensures.wrote)
+      c.put_number_line-2.ensures.wrote)
+      c.put_number_line-3.ensures.wrote,
+)
 
 pub returns : goal.returns
 unfolding slip_layout
 returns c =
-    wrote_then c.put_code_line-paying.ensures
-    (wrote_then c.put_number_line-numbered.ensures
-    (wrote_then c.put_code_line-paid.ensures
-    (wrote_then c.put_number_line-moved.ensures
-    (wrote_then c.put_number_line-head.ensures c.put_entries.ensures))))
+    let written = writes_then c.put_code_line.ensures
+    (writes_then c.put_number_line.ensures
+    (writes_then c.put_code_line-2.ensures
+    (writes_then c.put_number_line-2.ensures
+    (writes_then c.put_number_line-3.ensures c.put_entries.ensures)))) in
+    let there = written.wrote in
+    search rules

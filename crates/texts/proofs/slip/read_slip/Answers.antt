@@ -1,10 +1,7 @@
--- A slip was read to the very end of the text, or the text carries none.
-use borrow.Author.Rules.{rules}
-use Rattle.texts.proofs.ReadingTexts.{slip-there, slip-not-there}
+-- The slip that was parsed, or the refusal in its place.
+use Rattle.std.proofs.Common.{rules}
+use Rattle.texts.proofs.ReadingTexts.{slip-or-form}
 use Rattle.texts.proofs.slip.read_slip.Goals as goal
 
-pub returns-then-ends : goal.returns-then-ends
-returns-then-ends c = search (slip-there, rules)
-
 pub returns : goal.returns
-returns c = search (slip-not-there, rules)
+returns c = search (slip-or-form, rules)

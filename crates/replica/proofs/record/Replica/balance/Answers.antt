@@ -14,8 +14,8 @@ offset_bounds-self-at c = let room : c.position-at.result < 16 = search (balance
 pub bounds-self-at : goal.bounds-self-at
 bounds-self-at c = search (balance-place, is_lawful, rules)
 
-pub returns-then-lists : goal.returns-then-lists
-returns-then-lists c = search (balance-done, is_lawful, rules)
-
 pub returns : goal.returns
-returns c = search (balance-shop, is_lawful, rules)
+returns c = search (balance-done, is_lawful, rules)
+
+pub returns-then-not-lists : goal.returns-then-not-lists
+returns-then-not-lists c = search (balance-shop, is_lawful, rules)

@@ -2,28 +2,20 @@
 use Prim.Native.Nat.{◌≤◌}
 use native.Mathlib.Omega.{arith}
 use borrow.Author.Rules.{rules}
-use Rattle.replica.proofs.Answered.{Gives}
 use Rattle.replica.proofs.Issuing.{is_lawful, own-applied, few-marks, issue-state, issue-room, issue-answered, issue-done}
-use Rattle.replica.specs.Issue.{issued, issued_buffer}
 use Rattle.replica.proofs.record.Replica.issue.Goals as goal
 
 pub returns-then-not-lawful : goal.returns-then-not-lawful
-returns-then-not-lawful c =
-    let given : Gives c.refused.result (issued c.args.self c.args.payee.now c.args.amount c.args.buffer.now) c.args.buffer.now (issued_buffer c.args.self c.args.payee.now c.args.amount c.args.buffer.now) = search (issue-state, rules) in
-    record { outcome = given.outcome; bytes = given.lent }
+returns-then-not-lawful c = issue-state _ _ _ _ _ c.lawful.ensures c.if-not-lawful.true-raw _ c.refused.ensures
 
 pub returns-then-buffer-lt-SLIP_ROOM : goal.returns-then-buffer-lt-SLIP_ROOM
-returns-then-buffer-lt-SLIP_ROOM c =
-    let given : Gives c.refused-then-buffer-lt-SLIP_ROOM.result (issued c.args.self c.args.payee.now c.args.amount c.args.buffer.now) c.args.buffer.now (issued_buffer c.args.self c.args.payee.now c.args.amount c.args.buffer.now) = search (issue-room, is_lawful, rules) in
-    record { outcome = given.outcome; bytes = given.lent }
+returns-then-buffer-lt-SLIP_ROOM c = issue-room _ _ _ _ (search (is_lawful, rules)) (search rules) _ c.refused-then-buffer-lt-SLIP_ROOM.ensures
 
 pub own_now-own-requires : goal.own_now-own-requires
 own_now-own-requires c = search (is_lawful, rules)
 
-pub returns-then-answer-ne-OK : goal.returns-then-answer-ne-OK
-returns-then-answer-ne-OK c =
-    let given : Gives c.refused-then-answer-ne-OK.result (issued c.args.self c.args.payee.now c.args.amount c.args.buffer.now) c.args.buffer.now (issued_buffer c.args.self c.args.payee.now c.args.amount c.args.buffer.now) = search (issue-answered, is_lawful, rules) in
-    record { outcome = given.outcome; bytes = given.lent }
+pub returns-in-Err : goal.returns-in-Err
+returns-in-Err c = issue-answered _ _ _ _ (search (is_lawful, rules)) (search rules) _ c.own_now-own.ensures _ c.from_bytes-code.ensures _ _ c.in-Err.ensures c.refused-in-Err.ensures
 
 pub overflow_add-number : goal.overflow_add-number
 overflow_add-number c =
@@ -34,6 +26,4 @@ pub slip_with_marks-slip-requires : goal.slip_with_marks-slip-requires
 slip_with_marks-slip-requires c = search (few-marks, is_lawful, rules)
 
 pub returns : goal.returns
-returns c =
-    let given : Gives c.did.result (issued c.args.self c.args.payee.now c.args.amount c.args.buffer.now) c.write_slip-written.new.buffer (issued_buffer c.args.self c.args.payee.now c.args.amount c.args.buffer.now) = search (issue-done, is_lawful, rules) in
-    record { outcome = given.outcome; bytes = given.lent }
+returns c = issue-done _ _ _ _ (search (is_lawful, rules)) (search rules) _ c.own_now-own.ensures _ c.from_bytes-code.ensures (search rules) _ c.slip_with_marks-slip.ensures _ _ _ c.write_slip-answer.ensures.answer c.write_slip-answer.ensures.bytes (search rules)

@@ -21,4 +21,4 @@ bounds-self-at-2 c = search (own-place, rules)
 
 pub returns : goal.returns
 returns c =
-    (ap (shop_at c.args.self) c.position-at.ensures, ap (λ p. (line_at c.args.self p).count) c.position-at.ensures, refl)
+    (ap (shop_at c.args.self.now) c.position-at.ensures, ap (λ p. (line_at c.args.self.now p).count) c.position-at.ensures, refl)

@@ -1,31 +1,19 @@
--- With 1 to 8 digits the places decide, which the loop asks one after the other: those from `i` on decide, until one does not pass or none is left.
-use mathlib.Core.Path.{◌≡◌}
-use mathlib.Core.Bool.{true, false}
-use native.Mathlib.Omega.{arith}
-use lib.Dec.{eqb}
-use lib.ListN.{length}
-use borrow.Author.Rules.{rules}
+-- Between 1 and 8 digits the places decide: all of the first are digits and all of the others are zero.
+use Rattle.std.proofs.Common.{rules, ◌≡◌, eqb, length, take, drop}
+use Rattle.texts.specs.Bytes.{all_of}
 use Rattle.texts.specs.Leaf.{digit}
-use Rattle.texts.proofs.Values.{passed_none, passed-more, passed-fails, passed-done, code-few, code-many, code-rest}
+use Rattle.texts.proofs.Values.{all_is, zeros_are, skip, stop, code-rest}
 use Rattle.texts.proofs.code.Code.fits.Goals as goal
 
-pub returns-then-n-lt1 : goal.returns-then-n-lt1
-returns-then-n-lt1 c = code-few c.args.self (search rules) c.if-n-lt1.true
-
-pub returns-then-n-gt-CODE_DIGITS : goal.returns-then-n-gt-CODE_DIGITS
-returns-then-n-gt-CODE_DIGITS c = code-many c.args.self (search rules) c.if-n-gt-CODE_DIGITS.true
-
-pub loop-i-init : goal.loop-i-init
-loop-i-init c = passed_none digit (eqb 0) _ _
-
-pub returns-then-not-digit_passes : goal.returns-then-not-digit_passes
-returns-then-not-digit_passes c =
-    code-rest c.args.self (search rules) (search rules) (search rules) false (passed-fails c.loop-i.invariant _ (search rules) _ c.digit_passes.ensures c.if-not-digit_passes.true-raw)
-
-pub loop-i-preserved : goal.loop-i-preserved
-loop-i-preserved c = passed-more c.loop-i.invariant _ (search rules) _ c.digit_passes.ensures c.if-not-digit_passes.false-raw
-
-pub returns : goal.returns
-returns c =
+pub returns-then-all : goal.returns-then-all
+returns-then-all c =
     let places : length c.args.self.digits ≡ 8 = search rules in
-    code-rest c.args.self places (search rules) (search rules) true (passed-done c.loop-i.invariant (omega arith))
+    let used : c.all.result ≡ all_of digit (take c.args.self.len c.args.self.digits) = all_is digit _ 0 _ (search rules) (search rules) in
+    let rest : c.all-then-all.result ≡ all_of (eqb 0) (drop c.args.self.len c.args.self.digits) = zeros_are _ (search rules) (search rules) in
+    code-rest c.args.self places (search rules) (search rules) _ (skip _ _ _ (search rules) rest)
+
+pub returns-else-all : goal.returns-else-all
+returns-else-all c =
+    let places : length c.args.self.digits ≡ 8 = search rules in
+    let used : c.all.result ≡ all_of digit (take c.args.self.len c.args.self.digits) = all_is digit _ 0 _ (search rules) (search rules) in
+    code-rest c.args.self places (search rules) (search rules) _ (stop _ _ _ used c.if-all.false)

@@ -1,22 +1,23 @@
 -- The run of digits is a code where it is not empty and the closing byte follows it; otherwise there is none.
-use borrow.Author.Rules.{rules}
-use Rattle.texts.proofs.Reading.{goes-inside, closed-fits, reads-code, reads-no-code, reads-stopped}
+use mathlib.Core.Path.{sym, ◌∙◌}
+use mathlib.Core.Logic.{inl, inr}
+use native.Mathlib.Omega.{arith}
+use Rattle.texts.specs.Code.{code}
+use Rattle.texts.proofs.Reading.{nothing-there, code-stands-there, code-missing}
 use Rattle.texts.proofs.cursor.Cursor.code.Goals as goal
 
-pub returns-then-not-goes : goal.returns-then-not-goes
-returns-then-not-goes c = search (reads-stopped, rules)
+pub returns-in_err-after : goal.returns-in_err-after
+returns-in_err-after c =
+    let short = c.in_err-after.ensures.lookup.3 in
+    rw c.from_residual-in_err-after.ensures (nothing-there (code _) _ _ _ c.in_ok-rest.ensures.lookup.0.2 (code-missing _ _ _ c.hold-code.ensures (λ _ l _. omega (arith, short))))
 
-pub slice_bounds-t-count : goal.slice_bounds-t-count
-slice_bounds-t-count c = search (goes-inside, rules)
-
-pub slice_bounds-t-start : goal.slice_bounds-t-start
-slice_bounds-t-start c = search (goes-inside, rules)
-
-pub overflow_add-next-then-is_closed : goal.overflow_add-next-then-is_closed
-overflow_add-next-then-is_closed c = search (closed-fits, goes-inside, rules)
-
-pub returns-then-is_closed : goal.returns-then-is_closed
-returns-then-is_closed c = search (reads-code, rules)
+pub returns-then-code-lt1 : goal.returns-then-code-lt1
+returns-then-code-lt1 c =
+    nothing-there (code _) _ _ _ c.in_ok-rest.ensures.lookup.0.2
+    (code-missing _ _ _ c.hold-code.ensures (λ l m n.
+    elim c.then-code-lt1.either [ inl h ↦ omega arith | inr h ↦ h.1 (c.in_ok-after.ensures.lookup.3.1 0 ∙ n) ]))
 
 pub returns : goal.returns
-returns c = search (reads-no-code, rules)
+returns c =
+    code-stands-there _ _ _ _ c.in_ok-rest.ensures.lookup.0.2 _ c.hold-code.ensures c.if-code-lt1.false c.in_ok-after.ensures.lookup.3.0
+    (sym (c.in_ok-after.ensures.lookup.3.1 0) ∙ c.if-after-closing.false)

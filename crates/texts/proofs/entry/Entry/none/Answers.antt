@@ -2,4 +2,4 @@
 use Rattle.texts.proofs.entry.Entry.none.Goals as goal
 
 pub returns : goal.returns
-returns c = λ i. record { code = c.none-code.ensures i; number = 0 }
+returns c = λ i. record { code = c.none.ensures i; number = 0 }

@@ -2,8 +2,8 @@
 use Rattle.texts.proofs.Places.{answer-shops, answer-form}
 use Rattle.texts.proofs.register.Register.answer.Goals as goal
 
-pub returns-then-fits : goal.returns-then-fits
-returns-then-fits c = answer-shops _ _ c.fits.ensures c.if-fits.true _ c.shops_answer.ensures
+pub returns-then-not-fits : goal.returns-then-not-fits
+returns-then-not-fits c = answer-form _ _ c.fits.ensures c.if-not-fits.true
 
 pub returns : goal.returns
-returns c = answer-form _ _ c.fits.ensures c.if-fits.false
+returns c = answer-shops _ _ c.fits.ensures c.if-not-fits.false _ c.shops_answer.ensures

@@ -1,0 +1,6 @@
+-- The three lines: the three puts are one.
+use Rattle.desk.proofs.Reporting.{prints_then}
+use Rattle.desk.proofs.report.Printer.put_numbers.Goals as goal
+
+pub returns : goal.returns
+returns c = prints_then c.put_number.ensures (prints_then c.put_number-2.ensures c.put_number-3.ensures)
