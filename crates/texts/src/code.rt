@@ -14,7 +14,7 @@ pub struct Code {
     pub len: usize,
 }
 
-// Is the byte one of the digits 0 to 9: told here for codes and numbers.
+// Is the byte one of the digits 0 to 9: the library's test, with a promise that codes and numbers cite.
 pub(crate) fn is_digit(b: u8) -> bool
     ensures { result ≡ digit b }
 {
