@@ -2,10 +2,9 @@
 use mathlib.Core.Path.{◌≡◌, refl, sym, ap, ◌∙◌}
 use mathlib.Core.List.{List}
 use Prim.Native.Nat.{ℕ, zero, suc}
-use Rattle.std.proofs.Common.{Result, Ok, Err}
+use Rattle.std.proofs.Common.{Ok, Err}
 use Rattle.texts.specs.Answers.{answer_number}
-use Rattle.texts.specs.declared.answers.Refusal.{Refusal}
-use Rattle.texts.proofs.Refusals.{answered-once}
+use Rattle.texts.proofs.Refusals.{answered-once, said-once}
 use Rattle.replica.specs.declared.record.Replica.{Replica}
 use Rattle.replica.specs.declared.reply.Reply.{Reply}
 use Rattle.replica.specs.Outcome.{Outcome, refused, count_of, count_said, balance_said, open_said}
@@ -62,9 +61,4 @@ pub balance-said-once : BalanceSaidOnce
 balance-said-once = reply-once balance_said (λ o. o.balance) (λ r. refl) (λ r. refl) (λ r. refl)
 
 pub open-said-once : OpenSaidOnce
-open-said-once a b e =
-    answered-once a b (open-number a ∙ ap (λ (o : Outcome). o.answer) e ∙ sym (open-number b)) (λ x y h k. ap (λ (o : Outcome). o.replica) (sym (ap open_said h) ∙ e ∙ ap open_said k))
-  where
-    open-number : (a : Result Replica Refusal) → answer_number a ≡ (open_said a).answer
-    open-number (Ok self) = refl
-    open-number (Err refusal) = refl
+open-said-once = said-once open_said (λ o. o.answer) (λ o. o.replica) (elim [ Ok self ↦ refl | Err refusal ↦ refl ]) (λ x. refl)

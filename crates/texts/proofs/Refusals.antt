@@ -77,29 +77,17 @@ answered-once (Err f) (Err g) e given = ap Err (numbers-one-to-one f g e)
 pub answer-said-once : AnswerSaidOnce
 answer-said-once a b e = answered-once a b e (λ x y h k. refl)
 
+-- where what is said has the answer's number and its value
+pub said-once : {A S : Type 0} (said : Result A Refusal → S) (number : S → ℕ) (value : S → A) → ((a : Result A Refusal) → answer_number a ≡ number (said a)) → ((x : A) → value (said (Ok x)) ≡ x)
+    → (a b : Result A Refusal) → said a ≡ said b → a ≡ b
+said-once said number value numbers values a b e =
+    answered-once a b (numbers a ∙ ap number e ∙ sym (numbers b)) (λ x y h k. sym (values x) ∙ ap value (sym (ap said h) ∙ e ∙ ap said k) ∙ values y)
+
 pub register-said-once : RegisterSaidOnce
-register-said-once a b e =
-    answered-once a b (register-number a ∙ ap (λ (r : RegisterRead). r.answer) e ∙ sym (register-number b))
-    (λ x y h k. ap (λ (r : RegisterRead). r.register) (sym (ap register_said h) ∙ e ∙ ap register_said k))
-  where
-    register-number : (a : Result Register Refusal) → answer_number a ≡ (register_said a).answer
-    register-number (Ok r) = refl
-    register-number (Err refusal) = refl
+register-said-once = said-once register_said (λ r. r.answer) (λ r. r.register) (elim [ Ok r ↦ refl | Err refusal ↦ refl ]) (λ x. refl)
 
 pub slip-said-once : SlipSaidOnce
-slip-said-once a b e =
-    answered-once a b (slip-number a ∙ ap (λ (r : SlipRead). r.answer) e ∙ sym (slip-number b))
-    (λ x y h k. ap (λ (r : SlipRead). r.slip) (sym (ap slip_said h) ∙ e ∙ ap slip_said k))
-  where
-    slip-number : (a : Result Slip Refusal) → answer_number a ≡ (slip_said a).answer
-    slip-number (Ok s) = refl
-    slip-number (Err refusal) = refl
+slip-said-once = said-once slip_said (λ r. r.answer) (λ r. r.slip) (elim [ Ok s ↦ refl | Err refusal ↦ refl ]) (λ x. refl)
 
 pub written-said-once : WrittenSaidOnce
-written-said-once a b e =
-    answered-once a b (written-number a ∙ ap (λ (r : Written). r.answer) e ∙ sym (written-number b))
-    (λ x y h k. ap (λ (r : Written). r.count) (sym (ap written h) ∙ e ∙ ap written k))
-  where
-    written-number : (a : Result ℕ Refusal) → answer_number a ≡ (written a).answer
-    written-number (Ok count) = refl
-    written-number (Err refusal) = refl
+written-said-once = said-once written (λ r. r.answer) (λ r. r.count) (elim [ Ok count ↦ refl | Err refusal ↦ refl ]) (λ x. refl)
