@@ -11,8 +11,7 @@ use lib.Dec.{leb, ltb, eqb}
 use Rattle.std.specs.Bool.{IsTrue, Decides}
 use Rattle.std.specs.Prelude.{◌↔◌}
 use Rattle.std.specs.List.{All, Any}
-use Rattle.std.proofs.lemmas.List.{get_or_default}
-use Rattle.std.proofs.lemmas.Bool.Decides.{same_from_decides, Decides-like, Decides-by_and, Decides-by_or, Decides-ltb}
+use Rattle.std.proofs.lemmas.Bool.Decides.{Decides-ltb}
 use borrow.Author.Tests.{ltb-true, ltb-false, lt-ltb, le-ltb, le-leb, lt-leb, eq-eqb, ne_eqb, not-true, not-false}
 use Rattle.texts.specs.Bytes.{all_of}
 use Rattle.texts.specs.Code.{no_code, same_code}
@@ -30,7 +29,7 @@ use Rattle.texts.specs.declared.slip.Slip.{Slip}
 use Rattle.texts.proofs.Steps.{both, all_both, all_map, all-used-at, all_drop}
 use Rattle.texts.proofs.Refusals.{not-done, handed-on}
 use Rattle.texts.proofs.Firsts.{no_rows, applies, passes-by}
-use Rattle.texts.proofs.Values.{left-of}
+use Rattle.texts.proofs.Values.{left-of, all-decided, any-decided}
 use Rattle.texts.proofs.LawsTexts.{same_code_lem}
 use Rattle.texts.proofs.Legal.{SlipLegal, slip-legal, RegisterLegal, register-legal, place-head, place-later, single_more, place-within}
 use Rattle.replica.specs.declared.checks.PlacedSlip.{PlacedSlip}
@@ -82,27 +81,6 @@ module _ {A B : Type 0} {f : A → B} {z : B} {size : ℕ} {xs : List A} {out : 
   filled-done h =
       let e : i ≡ length xs = omega (arith, p.within) in
       p.holds ∙ ap₂ (λ l k. map f l ++ replicate (size - k) z) (take_all i xs h) e
-
--- ---- what `all` and `any` answer, as a test of each
-
--- both do not pass where one does not
-not-both : (a b : Bool) → not (a && b) ≡ (not a || not b)
-not-both true b = refl
-not-both false b = refl
-
-module _ {A : Type 0} (test : A → Bool) (P : A → Type 0) where
-  pub all-is : ((x : A) → Decides (test x) (P x)) → (xs : List A) (r : Bool) → IsTrue r ↔ All P xs → r ≡ all_of test xs
-  unfolding all_of
-  all-is each xs r h = same_from_decides r (all_of test xs) h (Decides-by_and test P (all_of test) each refl (λ _ _. refl) xs)
-
-  pub any-is : ((x : A) → Decides (not (test x)) (P x)) → A → (xs : List A) (r : Bool) → IsTrue r ↔ Any P xs → r ≡ not (all_of test xs)
-  unfolding all_of
-  any-is each z xs r h =
-      same_from_decides r (not (all_of test xs)) h
-      (Decides-like (not (all_of test xs))
-      (λ e. (e.0, get_or xs e.0 z, e.1, get_or_default xs e.0 (get_or xs e.0 z) z e.1, e.2 z))
-      (λ a. (a.0, a.2, λ d. subst P (sym (get_or_default xs a.0 d a.1 a.2 ∙ a.3)) a.4))
-      (Decides-by_or (λ x. not (test x)) P (λ l. not (all_of test l)) each refl (λ x l. not-both (test x) (all_of test l)) xs))
 
 -- ---- what is left of the first n
 
@@ -195,7 +173,7 @@ zero-amount s n e = sym (ap₂ (λ a b. a || (b || not (all_of (λ (d : Entry). 
 pub zero_rest : (s : Slip) → (s.number ≡ 0 → ⊥) → (s.amount ≡ 0 → ⊥) → (t : Bool) → IsTrue t ↔ Any (λ (d : Entry). d.number ≡ 0) (deps_of s) → t ≡ range? s
 unfolding range?
 zero_rest s n m t e =
-    any-is (λ (d : Entry). ltb 0 d.number) (λ d. d.number ≡ 0) zero-decides no_entry (deps_of s) t e
+    any-decided (λ (d : Entry). ltb 0 d.number) (λ d. d.number ≡ 0) zero-decides no_entry (deps_of s) t e
     ∙ sym (ap₂ (λ a b. a || (b || not (all_of (λ (d : Entry). ltb 0 d.number) (deps_of s)))) (ne_eqb _ 0 n) (ne_eqb _ 0 m))
 
 -- ---- the shop check
@@ -233,7 +211,7 @@ module _ (p : PlacedSlip) where
   -- both are: the dependencies decide
   pub deps-listed : p.payer < shops → p.payee < shops → (t : Bool) → IsTrue t ↔ All (λ q. q < shops) (take p.slip.now.count p.deps) → t ≡ not (shop? p.register.now p.slip.now)
   deps-listed g h t e =
-      listed-tests (lt-ltb _ _ g) (lt-ltb _ _ h) (all-is (λ q. ltb q shops) (λ q. q < shops) (λ q. Decides-ltb q shops) (take p.slip.now.count p.deps) t e)
+      listed-tests (lt-ltb _ _ g) (lt-ltb _ _ h) (all-decided (λ q. ltb q shops) (λ q. q < shops) (λ q. Decides-ltb q shops) (take p.slip.now.count p.deps) t e)
 
 -- ---- the dependencies' order
 

@@ -15,7 +15,7 @@ use Rattle.texts.specs.Code.{same_code, code_of}
 use Rattle.texts.specs.Entries.{no_entry}
 use Rattle.texts.specs.Register.{position, listed}
 use Rattle.texts.specs.Slip.{slip_write_answer, slip_written, slip_buffer, no_slip}
-use Rattle.texts.specs.Written.{Written, written, over, answered}
+use Rattle.texts.specs.Written.{Written, written, over}
 use Rattle.texts.specs.declared.answers.Refusal.{Refusal}
 use Rattle.texts.specs.declared.answers.Refusal.TheVariants.{Room, State}
 use Rattle.texts.specs.declared.code.Code.{Code}
@@ -350,12 +350,12 @@ module _ (self : Replica) (payee : List ℕ) (amount : ℕ) (buffer : List ℕ) 
           pub issue-done : (w : Result ℕ Refusal) (after : List ℕ) (shops : List Shop) → written w ≡ slip_written s buffer → after ≡ slip_buffer s buffer → shops ≡ map unmarked self.shops
               → Gives (count_said (record { answer = w; replica = record { register = self.register; issued = mine.shop.applied + 1; shops = shops; lines = self.lines } }))
               (issued self payee amount buffer) after (issued_buffer self payee amount buffer)
-          unfolding issued issued_buffer issuing answered
+          unfolding issued issued_buffer issuing
           issue-done w after shops i j k =
               let text : List ℕ = issued_text self payee amount in
               let put = slip-put (issued_slip self payee amount) buffer slip-written in
               let said : written w ≡ record { answer = 0; count = length text } =
-              i ∙ ap (λ x. slip_written x buffer) is-slip ∙ ap₂ (λ (a n : ℕ). record { answer = a; count = n }) slip-written put.0 in
+              i ∙ ap (λ x. slip_written x buffer) is-slip ∙ put.0 in
               let bytes : after ≡ over text buffer = j ∙ ap (λ x. slip_buffer x buffer) is-slip ∙ put.1 in
               let then : record { register = self.register; issued = mine.shop.applied + 1; shops = shops; lines = self.lines } ≡ issuing self =
               ap₂ (λ (x : Shop) (l : List Shop). record { register = self.register; issued = x.applied + 1; shops = l; lines = self.lines }) ours.0 k in

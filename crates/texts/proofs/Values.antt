@@ -1,6 +1,6 @@
 -- What the tests of values come to: the places of an array one after the other, codes, entries, registers and slips.
-use mathlib.Core.Path.{◌≡◌, refl, sym, ap, ◌∙◌}
-use mathlib.Core.Bool.{Bool, true, false, ◌&&◌, and_comm, and-true, false≢true}
+use mathlib.Core.Path.{◌≡◌, refl, sym, ap, ◌∙◌, subst}
+use mathlib.Core.Bool.{Bool, true, false, not, ◌&&◌, ◌||◌, and_comm, and-true, false≢true}
 use mathlib.Core.List.{List, [], ◌∷◌, ◌++◌, map}
 use Prim.Native.Nat.{ℕ, zero, suc, ◌+◌, ◌-◌, ◌≤◌, ◌<◌}
 use native.Mathlib.Omega.{arith}
@@ -10,7 +10,12 @@ use lib.Seq.{drop-cons, take_at, take-length, length-take-le}
 use lib.Dec.{leb, eqb, eqb-suc-zero, eqb-zero-suc}
 use borrow.Author.Tests.{leb-true, eq-eqb}
 use lib.Pointwise.{pointwise}
+use Rattle.std.specs.Bool.{IsTrue, Decides}
+use Rattle.std.specs.Prelude.{◌↔◌}
+use Rattle.std.specs.List.{All, Any}
+use Rattle.std.proofs.lemmas.List.{get_or_default}
 use Rattle.std.proofs.lemmas.List.Recursion.{and_is}
+use Rattle.std.proofs.lemmas.Bool.Decides.{same_from_decides, Decides-like, Decides-by_and, Decides-by_or}
 use Rattle.texts.specs.Bounds.{most, most_deps, most_shops, code_places}
 use Rattle.texts.specs.Bytes.{same_bytes, all_of}
 use Rattle.texts.specs.Leaf.{digit, run}
@@ -65,6 +70,26 @@ all_is test = and_is (all_of test) test refl (λ _ _. refl)
 pub zeros_are : {t : Bool} (xs : List ℕ) → (t ≡ true → (i : ℕ) → i < length xs → eqb (get_or xs i 0) 0 ≡ true)
     → (t ≡ false → (i : ℕ) × (i < length xs) × (eqb (get_or xs i 0) 0 ≡ false)) → t ≡ all_of (eqb 0) xs
 zeros_are {t} xs y n = all_is (eqb 0) xs 0 t (λ h i l. sym (zero_test (get_or xs i 0)) ∙ y h i l) (λ h. let w = n h in (w.0, w.1, sym (zero_test (get_or xs w.0 0)) ∙ w.2))
+
+-- what `all` and `any` answered, as a test of each
+module _ {A : Type 0} (test : A → Bool) (P : A → Type 0) where
+  pub all-decided : ((x : A) → Decides (test x) (P x)) → (xs : List A) (r : Bool) → IsTrue r ↔ All P xs → r ≡ all_of test xs
+  unfolding all_of
+  all-decided each xs r h = same_from_decides r (all_of test xs) h (Decides-by_and test P (all_of test) each refl (λ _ _. refl) xs)
+
+  pub any-decided : ((x : A) → Decides (not (test x)) (P x)) → A → (xs : List A) (r : Bool) → IsTrue r ↔ Any P xs → r ≡ not (all_of test xs)
+  unfolding all_of
+  any-decided each z xs r h =
+      same_from_decides r (not (all_of test xs)) h
+      (Decides-like (not (all_of test xs))
+      (λ e. (e.0, get_or xs e.0 z, e.1, get_or_default xs e.0 (get_or xs e.0 z) z e.1, e.2 z))
+      (λ a. (a.0, a.2, λ d. subst P (sym (get_or_default xs a.0 d a.1 a.2 ∙ a.3)) a.4))
+      (Decides-by_or (λ x. not (test x)) P (λ l. not (all_of test l)) each refl (λ x l. not-both (test x) (all_of test l)) xs))
+    where
+      -- both do not pass where one does not
+      not-both : (a b : Bool) → not (a && b) ≡ (not a || not b)
+      not-both true b = refl
+      not-both false b = refl
 
 -- ---- one more place
 

@@ -94,7 +94,8 @@ pub slip-zero : (s : Slip) (d : List ℕ) → slip_room ≤ length d → slip_la
 unfolding slip_write_answer
 slip-zero s d h fits = there slip_room _ d h ∙ sym (slip-fine _ true (sym fits) refl)
 
--- a write with answer 0: its count, and the buffer
-pub slip-put : (s : Slip) (d : List ℕ) → slip_write_answer s d ≡ 0 → ((slip_written s d).count ≡ length (slip_layout.text s)) × (slip_buffer s d ≡ over (slip_layout.text s) d)
+-- a write with answer 0: what it says, and the buffer
+pub slip-put : (s : Slip) (d : List ℕ) → slip_write_answer s d ≡ 0
+    → (◌≡◌ {A = Written} (slip_written s d) (record { answer = 0; count = length (slip_layout.text s) })) × (slip_buffer s d ≡ over (slip_layout.text s) d)
 unfolding answered buffered
-slip-put s d e = (ap (λ a. (answered a (slip_layout.text s)).count) e, ap (λ a. buffered a (slip_layout.text s) d) e)
+slip-put s d e = (ap (λ a. answered a (slip_layout.text s)) e, ap (λ a. buffered a (slip_layout.text s) d) e)
