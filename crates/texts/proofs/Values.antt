@@ -8,7 +8,7 @@ use native.Mathlib.Numerals.{add-one}
 use lib.ListN.{length, take, drop, get_or, replicate, length-map}
 use lib.Seq.{drop-cons, take_at, take-length, length-take-le}
 use lib.Dec.{leb, eqb, eqb-suc-zero, eqb-zero-suc}
-use borrow.Author.Tests.{leb-true, eq-eqb}
+use borrow.Author.Tests.{leb-true, eq-eqb, ne_eqb}
 use lib.Pointwise.{pointwise}
 use Rattle.std.specs.Bool.{IsTrue, Decides}
 use Rattle.std.specs.Prelude.{◌↔◌}
@@ -113,6 +113,16 @@ eq_code a b = pointwise eqb a.digits b.digits && eqb a.len b.len
 pub eq_same : (a b : Code) → eq_code a b ≡ same_code a b
 unfolding same_code
 eq_same a b = and_comm (pointwise eqb a.digits b.digits) (eqb a.len b.len) ∙ ap (λ t. eqb a.len b.len && t) (same_bytes_is a.digits b.digits)
+
+-- of one length, the digits decide
+pub same-digits : (a b : Code) → a.len ≡ b.len → pointwise eqb a.digits b.digits ≡ same_code a b
+unfolding same_code
+same-digits a b e = skip _ _ _ (eq-eqb _ _ e) (same_bytes_is a.digits b.digits)
+
+-- of two lengths, they are not the same
+pub other-length : (a b : Code) → (a.len ≡ b.len → ⊥) → eqb a.len b.len ≡ same_code a b
+unfolding same_code
+other-length a b n = ne_eqb _ _ n ∙ sym (ap (λ t. t && same_bytes a.digits b.digits) (ne_eqb _ _ n))
 
 -- a code's places are eight, and it counts one to eight digits: its places decide
 pub code-rest : (c : Code) → length c.digits ≡ code_places → 1 ≤ c.len → c.len ≤ code_places

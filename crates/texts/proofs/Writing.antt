@@ -4,8 +4,9 @@ use mathlib.Core.List.{List, [], ◌∷◌, ◌++◌, append_assoc}
 use Prim.Native.Nat.{ℕ, suc, ◌+◌, ◌-◌, ◌/◌, ◌%◌, ◌≤◌, ◌<◌}
 use native.Mathlib.Omega.{arith}
 use native.Mathlib.Nat.{add-suc, add-zero, zero-add}
-use lib.ListN.{length, take, drop, get_or, set, length-append, length-set, take-append-drop, drop_of_length-le}
-use lib.Seq.{paste-zero, take_at, drop-append-add, drop-drop, length-take-le, take_all, get_or-take, get_or_at, take-take, set-append_left, take-set-lt, take-suc-set, drop-cons}
+use native.Mathlib.Numerals.{add-one}
+use lib.ListN.{drop, drop_of_length-le, get_or, length, length-append, length-set, set, take, take-append-drop}
+use lib.Seq.{drop-append-add, drop-cons, drop-drop, get_or-take, get_or_at, length-take-le, paste, paste-suc, paste-zero, set-append_left, take-set-lt, take-suc-set, take-take, take_all, take_at}
 use Rattle.texts.specs.Leaf.{digits}
 use Rattle.texts.specs.Written.{over}
 use Rattle.texts.specs.Inside.{Room, Wrote, Writes}
@@ -53,6 +54,26 @@ writes_nothing p h = record { same_page = refl; wrote = wrote_nothing p.page.now
 -- What is written from the front on stands over the buffer.
 pub wrote-over : {d d' : List ℕ} {n : ℕ} (t : List ℕ) → Wrote d 0 t d' n → (n ≡ length t) × (d' ≡ over t d)
 wrote-over {d} t w = (w.past ∙ zero-add (length t), w.holds ∙ ap (λ k. t ++ drop k d) (zero-add (length t)))
+
+-- The first i bytes of w are written into d from `at` on, which has given b.
+pub record Copied (d : List ℕ) (at : ℕ) (w b : List ℕ) (i : ℕ) : Type 0 where
+  pub most : i ≤ length w
+  pub room : at + length w ≤ length d
+  pub size : length b ≡ length d
+  pub holds : b ≡ paste d at w i
+
+-- None is.
+pub copied_none : {d : List ℕ} {at : ℕ} {w : List ℕ} → Room d at w → Copied d at w d 0
+copied_none {d} {at} {w} room = record { most = omega arith; room = room.fits; size = refl; holds = paste-zero d at w }
+
+-- One more.
+pub copied_more : {d : List ℕ} {at : ℕ} {w b : List ℕ} {i : ℕ} → Copied d at w b i → i < length w → Copied d at w (set b (at + i) (get_or w i 0)) (i + 1)
+copied_more {d} {at} {w} {b} {i} q h = record {
+  most = omega arith;
+  room = q.room;
+  size = length-set b (at + i) (get_or w i 0) ∙ q.size;
+  holds = rw (q.holds, add-one i) (paste-suc d at w i 0 (omega arith) h);
+}
 
 -- ---- a number, from its last digit to its first
 

@@ -1,7 +1,10 @@
--- The derived test asks the digits and then the length, and `same_code` the length and then the digits.
+-- Codes of one length are the same where their digits are; codes of two lengths are not.
 use Rattle.std.proofs.Common.{◌∙◌}
-use Rattle.texts.proofs.Values.{eq_same}
+use Rattle.texts.proofs.Values.{same-digits, other-length}
 use Rattle.texts.proofs.code.Code.same.Goals as goal
 
-pub returns : goal.returns
-returns c = c.eq.ensures ∙ eq_same c.args.self c.args.other
+pub returns-then-self-other : goal.returns-then-self-other
+returns-then-self-other c = c.eq.ensures ∙ same-digits c.args.self c.args.other c.if-self-other.true
+
+pub returns-else-self-other : goal.returns-else-self-other
+returns-else-self-other c = other-length c.args.self c.args.other c.if-self-other.false
